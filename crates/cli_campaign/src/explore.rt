@@ -95,6 +95,7 @@ fn read_question<R: Print + Eprint>(rt: &R, order: &ExploreOrder) -> Result<Ques
     Ok(Question {
         expect: Expect { rule, exit },
         always: None,
+        never_both: None,
         bounds: bounds_of(order.bounds),
         refusals,
         most: worlds as usize,

@@ -1,5 +1,5 @@
 -- The choice text of a failing list.
-use Rattle.std.proofs.Common.{◌≡◌, ℕ, zero, suc, ◌<◌, ◌^◌, ◌⊎◌, List, [], ◌∷◌, ◌++◌, length, codes, None, Ok, ap, sym, ◌∙◌, arith, inl, inr}
+use Rattle.std.proofs.Common.{◌≡◌, ℕ, zero, suc, ◌<◌, ◌^◌, ◌⊎◌, List, [], ◌∷◌, ◌++◌, length, codes, None, Ok, ap, sym, ◌∙◌, arith, inl, inr, Option}
 use Rattle.std.specs.List.{All, Contains, slice_index_or}
 use Rattle.image.specs.Image.{ImageValue}
 use Rattle.machine.specs.Start.{started}
@@ -23,8 +23,9 @@ use Rattle.explore_space.specs.declared.question.Question.{Question}
 use Rattle.cmd_explore.specs.declared.finding.Explored.{Explored}
 use Rattle.cmd_explore.specs.declared.finding.Finding.TheVariants as finding
 use Rattle.cmd_form.specs.declared.form.Form.{Form}
-use Rattle.cmd_explore.specs.Explore.{failing_status, list_shown, word_broken, IsExplored, TellsHeld}
+use Rattle.cmd_explore.specs.Explore.{failing_status, list_shown, section_broken, word_broken, IsExplored, TellsHeld}
 use Rattle.cmd_explore.proofs.KeepLemmas.{keeps_all, keeps_before}
+use Rattle.explore_laws.specs.declared.section.Section.{Section}
 
 -- ---- the harts of meant choices
 shifted : (c x : Choice) (xs ys : List Choice) → Contains xs x ⊎ Contains ys x → Contains (c ∷ xs) x ⊎ Contains ys x
@@ -65,40 +66,41 @@ read_again refusals n choices few are =
     choices_of-spelled n (runs_text choices) choices few (runs_spell n choices few (harts_below refusals n choices are))
 
 -- ---- what is told
-hanging_meant : {Z : Type 0} (exit : Exit) (refusals : ScRefusals) (image : ImageValue) (inputs : List ℕ) (hanging : Failing Z)
-    → TellsExits exit refusals image inputs (Hangs hanging) → IsListOf (meant_choices refusals (length inputs)) hanging.choices.items
-hanging_meant May refusals image inputs hanging none = absurd none
-hanging_meant Must refusals image inputs hanging hangs = hangs.meant_ones
+hanging_meant : {Z : Type 0} (section : Option Section) (exit : Exit) (refusals : ScRefusals) (image : ImageValue) (inputs : List ℕ) (hanging : Failing Z)
+    → TellsExits section exit refusals image inputs (Hangs hanging) → IsListOf (meant_choices refusals (length inputs)) hanging.choices.items
+hanging_meant section May refusals image inputs hanging none = absurd none
+hanging_meant section Must refusals image inputs hanging hangs = hangs.meant_ones
 
 module _ {Z : Type 0} (form : Form) (question : Question) (image : ImageValue) (inputs : List ℕ) (found : Explored Z) where
-  pub tells_holding : (held : Held Z) → HoldsOfEvery {Z = Z} question.expect.rule question.always question.refusals image inputs (Holds held)
-      → CountsPlaces {Z = Z} question.refusals image inputs question.most (Holds held)
+  pub tells_holding : (held : Held Z) → HoldsOfEvery {Z = Z} question.expect.rule question.always question.never_both question.refusals image inputs (Holds held)
+      → CountsPlaces {Z = Z} question.never_both question.refusals image inputs question.most (Holds held)
       → TellsEnds {Z = Z} question.expect.rule question.refusals image inputs (Holds held)
-      → TellsExits {Z = Z} question.expect.exit question.refusals image inputs (Holds held)
+      → TellsExits {Z = Z} question.never_both question.expect.exit question.refusals image inputs (Holds held)
       → TellsBounds {Z = Z} question.bounds question.refusals image inputs (Holds held)
       → TellsHeld form question.expect.exit held.places (ends_in held.ends) held.bounds.items found.text.items
-      → found.status ≡ status.Done → found.broken ≡ None → found.finding ≡ finding.Holds → IsExplored form question image inputs found
-  tells_holding held holds counts ends exits bounds text status broken finding_is = record {
+      → found.status ≡ status.Done → found.broken ≡ None → found.both ≡ None → found.finding ≡ finding.Holds → IsExplored form question image inputs found
+  tells_holding held holds counts ends exits bounds text status broken both finding_is = record {
     answer = Holds held;
     holds = holds;
-    keeps = keeps_all question.expect.rule question.always (meant_choices question.refusals (length inputs)) image inputs holds;
+    keeps = keeps_all question.expect.rule question.always question.never_both (meant_choices question.refusals (length inputs)) image inputs holds;
     counts = counts;
     ends = ends;
     exits = exits;
     bounds = bounds;
-    told = (text, status, broken, finding_is);
+    told = (text, status, broken, both, finding_is);
   }
 
   pub tells_failing : length inputs < 2 ^ 32 → (failing : Failing Z)
-      → HoldsOfEvery {Z = Z} question.expect.rule question.always question.refusals image inputs (Fails failing)
-      → TellsExits {Z = Z} question.expect.exit question.refusals image inputs (Fails failing)
-      → found.text.items ≡ list_shown form (codes "fails") failing.turns failing.choices.items → found.status ≡ failing_status question.expect.rule found.broken
+      → HoldsOfEvery {Z = Z} question.expect.rule question.always question.never_both question.refusals image inputs (Fails failing)
+      → TellsExits {Z = Z} question.never_both question.expect.exit question.refusals image inputs (Fails failing)
+      → found.text.items ≡ list_shown form (codes "fails") failing.turns failing.choices.items → found.status ≡ failing_status question.expect.rule found.broken found.both
       → found.broken ≡ word_broken question.always (started image inputs) failing.choices.items
+      → found.both ≡ section_broken question.never_both (started image inputs) failing.choices.items
       → found.finding ≡ finding.Fails failing.turns → IsExplored form question image inputs found
-  tells_failing few failing fails exits text status broken finding_is = record {
+  tells_failing few failing fails exits text status broken both finding_is = record {
     answer = Fails failing;
     holds = fails;
-    keeps = keeps_before question.expect.rule question.always (meant_choices question.refusals (length inputs)) image inputs failing.turns fails.shortest;
+    keeps = keeps_before question.expect.rule question.always question.never_both (meant_choices question.refusals (length inputs)) image inputs failing.turns fails.shortest;
     counts = tt;
     ends = tt;
     exits = exits;
@@ -108,19 +110,20 @@ module _ {Z : Type 0} (form : Form) (question : Question) (image : ImageValue) (
       read_again question.refusals (length inputs) failing.choices.items few fails.meant_ones,
       status,
       broken,
+      both,
       finding_is,
     );
   }
 
   pub tells_hanging : length inputs < 2 ^ 32 → (hanging : Failing Z)
-      → HoldsOfEvery {Z = Z} question.expect.rule question.always question.refusals image inputs (Hangs hanging)
-      → TellsExits {Z = Z} question.expect.exit question.refusals image inputs (Hangs hanging)
+      → HoldsOfEvery {Z = Z} question.expect.rule question.always question.never_both question.refusals image inputs (Hangs hanging)
+      → TellsExits {Z = Z} question.never_both question.expect.exit question.refusals image inputs (Hangs hanging)
       → found.text.items ≡ list_shown form (codes "hangs") hanging.turns hanging.choices.items → found.status ≡ status.Faulted
-      → found.broken ≡ None → found.finding ≡ finding.Hangs hanging.turns → IsExplored form question image inputs found
-  tells_hanging few hanging holds exits text status broken finding_is = record {
+      → found.broken ≡ None → found.both ≡ None → found.finding ≡ finding.Hangs hanging.turns → IsExplored form question image inputs found
+  tells_hanging few hanging holds exits text status broken both finding_is = record {
     answer = Hangs hanging;
     holds = holds;
-    keeps = keeps_all question.expect.rule question.always (meant_choices question.refusals (length inputs)) image inputs holds;
+    keeps = keeps_all question.expect.rule question.always question.never_both (meant_choices question.refusals (length inputs)) image inputs holds;
     counts = tt;
     ends = tt;
     exits = exits;
@@ -128,9 +131,10 @@ module _ {Z : Type 0} (form : Form) (question : Question) (image : ImageValue) (
     told = (
       text,
       read_again question.refusals (length inputs) hanging.choices.items few
-          (hanging_meant question.expect.exit question.refusals image inputs hanging exits),
+          (hanging_meant question.never_both question.expect.exit question.refusals image inputs hanging exits),
       status,
       broken,
+      both,
       finding_is,
     );
   }

@@ -5,12 +5,12 @@ ghost use Rattle.std.specs.List.{All};
 ghost use Rattle.machine.specs.Start.{IsStartable, started};
 ghost use Rattle.program_open.specs.CommandFaults.{IfNames, IsRefusal};
 ghost use Rattle.program_open.specs.Opening.{program_opening};
-ghost use Rattle.cmd_explore.specs.Explore.{failing_status, list_shown, word_broken, ExploresOpened, HasTooMany, IsExplored, RefusesOpened};
+ghost use Rattle.cmd_explore.specs.Explore.{failing_status, list_shown, section_broken, word_broken, ExploresOpened, HasTooMany, IsExplored, RefusesOpened};
 
+use crate::breaks::{section_broken, word_broken};
 use crate::finding::{Explored, Finding};
 use crate::holding::holding_text;
 use crate::listed::list_text;
-use crate::word_breaks::word_broken;
 use byte_io::{Progress, Source, Status};
 use cmd_json::Form;
 use explore_space::{Answer, Failing, Question, explore};
@@ -20,13 +20,14 @@ use object_library::Kind;
 use program_open::{CommandFault, ProgramForm, open_program};
 use std::alloc::{AllocError, Allocator};
 
-// The status of a failing run, which breaks what a word must be after so many choices, if it does.
-fn failing_status(rule: Option<Kind>, broken: Option<usize>) -> Status
-    ensures { result ≡ failing_status rule broken }
+// The status of a failing run: after so many choices it breaks what a word must be, if it does, and
+// after so many two harts stand in the section.
+fn failing_status(rule: Option<Kind>, broken: Option<usize>, both: Option<usize>) -> Status
+    ensures { result ≡ failing_status rule broken both }
 {
-    match (rule, broken) {
-        (_, Some(_)) | (Some(_), None) => Status::Broken,
-        (None, None) => Status::Faulted,
+    match (rule, broken, both) {
+        (_, Some(_), _) | (_, None, Some(_)) | (Some(_), None, None) => Status::Broken,
+        (None, None, None) => Status::Faulted,
     }
 }
 
@@ -43,16 +44,20 @@ fn failing_found<A: Allocator + Copy>(
     ensures text { IfOk result (λ found. found.text.items
         ≡ list_shown form (codes "fails") failing.now.turns failing.now.choices.items) }
     ensures status { IfOk result (λ found. found.status
-        ≡ failing_status question.expect.rule found.broken) }
+        ≡ failing_status question.expect.rule found.broken found.both) }
     ensures broken { IfOk result (λ found. found.broken
         ≡ word_broken question.always (started image.now inputs.now) failing.now.choices.items) }
+    ensures both { IfOk result (λ found. found.both
+        ≡ section_broken question.never_both (started image.now inputs.now) failing.now.choices.items) }
     ensures finding { IfOk result (λ found. found.finding ≡ Finding.Fails failing.now.turns) }
 {
     let broken = word_broken(alloc, image, inputs, question.always, &failing.choices)?;
+    let both = section_broken(alloc, image, inputs, question.never_both, &failing.choices)?;
     Ok(Explored {
         text: list_text(alloc, form, "fails", failing)?,
-        status: failing_status(question.expect.rule, broken),
+        status: failing_status(question.expect.rule, broken, both),
         broken,
+        both,
         finding: Finding::Fails(failing.turns),
     })
 }
@@ -76,6 +81,7 @@ fn explored<A: Allocator + Copy>(
             text: holding_text(alloc, form, expect.exit, &held)?,
             status: Status::Done,
             broken: None,
+            both: None,
             finding: Finding::Holds,
         })),
         Answer::Fails(failing) => Ok(Some(failing_found(
@@ -85,6 +91,7 @@ fn explored<A: Allocator + Copy>(
             text: list_text(alloc, form, "hangs", &hanging)?,
             status: Status::Faulted,
             broken: None,
+            both: None,
             finding: Finding::Hangs(hanging.turns),
         })),
         Answer::Undecided => Ok(None),

@@ -24,10 +24,13 @@ pub struct Explored<A: Allocator> {
     /// Or an object of JSON with the same facts.
     pub text: Vec<u8, A>,
     /// `Done` where no schedule fails or hangs; `Faulted` where one hangs; where one fails, `Broken`
-    /// if it breaks what a word must be, and else `Broken` under a rule, and `Faulted` without one.
+    /// if it breaks what a word must be or leads two harts into the section, and else `Broken` under
+    /// a rule, and `Faulted` without one.
     pub status: Status,
     /// After how many choices of the list the word isn't what it must be, if it fails by that.
     pub broken: Option<usize>,
+    /// After how many choices of the list two harts first stand in the section, if it fails by that.
+    pub both: Option<usize>,
     /// Whether the text is that of a list that fails or hangs.
     pub finding: Finding,
 }

@@ -3,12 +3,13 @@
 
 pub use cmd_json::Form;
 pub use engine::explore_engine;
-pub use explore_space::{Always, OwnBounds, Question};
+pub use explore_space::{Always, OwnBounds, Question, Section};
 pub use finding::{Explored, Finding};
 pub use objects::undecided_object;
 pub use refusals::read_refusals;
 
 mod bound_lines;
+mod breaks;
 mod end_lines;
 mod engine;
 mod finding;
@@ -17,4 +18,3 @@ mod listed;
 mod object_lists;
 mod objects;
 mod refusals;
-mod word_breaks;

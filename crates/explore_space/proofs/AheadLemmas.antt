@@ -1,5 +1,5 @@
 -- A run in which harts that take no turn haven't taken their first local steps either.
-use Rattle.std.proofs.Common.{◌≡◌, ℕ, zero, suc, ◌+◌, ◌<◌, ◌==◌, Bool, true, false, ◌||◌, List, [], ◌∷◌, length, get_or, set, cond, Option, Some, None, refl, ap, sym, ◌∙◌, subst, inl, inr, arith, eq-eqb, true≢false}
+use Rattle.std.proofs.Common.{◌≡◌, ℕ, zero, suc, ◌+◌, ◌<◌, ◌==◌, Bool, true, false, not, ◌&&◌, ◌||◌, List, [], ◌∷◌, length, get_or, set, cond, Option, Some, None, refl, ap, sym, ◌∙◌, subst, inl, inr, arith, eq-eqb, true≢false}
 use Rattle.std.proofs.lemmas.Bool.{cases_Bool, cases_eq, or_right}
 use Rattle.std.proofs.lemmas.List.{length-set}
 use Rattle.std.proofs.lemmas.Option.{get_or_from_slice_get, slice_get-get_or}
@@ -20,7 +20,7 @@ use Rattle.machine.specs.declared.choice.Choice.{Choice}
 use Rattle.explore_laws.specs.Bounds.{not_stopped, still_runs}
 use Rattle.explore_laws.specs.Covering.{WalksTo, WorldCovers}
 use Rattle.explore_laws.specs.Places.{Place, place_after, place_begun, place_reached}
-use Rattle.explore_laws.specs.Settling.{rested, at_once, settled_by, world_settled}
+use Rattle.explore_laws.specs.Settling.{rested, rests_in, at_once, settled_by, world_settled}
 use Rattle.explore_laws.proofs.CoverLemmas.{step_code, step_is}
 use Rattle.explore_laws.proofs.SettleLemmas.{covers_itself, get_set_other, same_value, settled_covers, there_set, there_too}
 use Rattle.machine.specs.Chosen.{ChooseAlike}
@@ -28,7 +28,7 @@ use Rattle.object_library.specs.declared.kind.Kind.{Kind}
 use Rattle.object_library.specs.Rules.{is_exited, is_faulted}
 use Rattle.outcome.specs.Expect.{fails, judged}
 use Rattle.outcome.specs.declared.expect.Exit.TheVariants.{May}
-use Rattle.explore_space.specs.Begun.{choices_from_start, hart_begun, runs_settled, settled_start, world_begun}
+use Rattle.explore_space.specs.Begun.{choices_from_start, hart_begun, runs_outside, runs_outside_there, runs_settled, settled_start, world_begun}
 use Rattle.explore_space.proofs.BegunLemmas.{begun_other, run_from_start, runs_alike, settled_other}
 use Rattle.explore_space.proofs.LagLemmas.{covers_joined}
 use Rattle.explore_space.proofs.TurnLists.{no_step}
@@ -40,17 +40,21 @@ use Rattle.explore_laws.proofs.OutsideLemmas.{outside_none}
 pub record AllRun (w : World) : Type 0 where
   pub each : (h : ℕ) (v : HartValue) → slice_get w.harts h ≡ Some v → not_stopped v.state ≡ true
 
--- one world covers another, and has the same harts for which `who` says so; the others run in both
+-- one world covers another, and has the same harts for which `who` says so; the others run in both,
+-- and those of them that stand in the section are the same too
 pub record Ahead (section : Option Section) (who : ℕ → Bool) (s w : World) : Type 0 where
   pub covers : WorldCovers section s w
   pub same : (h : ℕ) → who h ≡ true → slice_get s.harts h ≡ slice_get w.harts h
   pub runs : (h : ℕ) (u : HartValue) → who h ≡ false → slice_get s.harts h ≡ Some u → not_stopped u.state ≡ true
+  pub stays : (h : ℕ) (u : HartValue) → who h ≡ false → slice_get s.harts h ≡ Some u → rests_in section u ≡ true
+      → slice_get w.harts h ≡ Some u
 
 ahead_itself : (section : Option Section) (who : ℕ → Bool) (w : World) → AllRun w → Ahead section who w w
 ahead_itself section who w all = record {
   covers = covers_itself section w;
   same = λ h yes_. refl;
   runs = λ h u no_ at. all.each h u at;
+  stays = λ h u no_ at within. at;
 }
 
 -- ---- one of the harts is changed in both
@@ -84,6 +88,11 @@ set_both section who s w h v u ms mw rs rw ahead yes_ there code_is memory reser
       runs = λ k x no_ at. elim (cases_eq k h) [
         | inl is ↦ absurd (true≢false (sym yes_ ∙ ap who (sym is) ∙ no_))
         | inr other ↦ ahead.runs k x no_ (sym (get_set_other s.harts h k u other) ∙ at)
+      ];
+      stays = λ k x no_ at within. elim (cases_eq k h) [
+        | inl is ↦ absurd (true≢false (sym yes_ ∙ ap who (sym is) ∙ no_))
+        | inr other ↦
+            get_set_other w.harts h k u other ∙ ahead.stays k x no_ (sym (get_set_other s.harts h k u other) ∙ at) within
       ];
     }
 
@@ -136,6 +145,22 @@ turns_ahead section who p q (c ∷ turns) p_is q_is all ahead =
     both))
 
 -- ---- the first local steps
+-- a hart that runs outside runs, and doesn't stand in the section
+pub outside_runs : (section : Option Section) (u : HartValue) → runs_outside section u ≡ true → not_stopped u.state ≡ true
+outside_runs section u outside = both (not_stopped u.state) (not (rests_in section u)) outside
+  where
+    both : (a b : Bool) → a && b ≡ true → a ≡ true
+    both true b e = refl
+    both false b e = absurd (cc)
+
+outside_rests : (section : Option Section) (u : HartValue) → runs_outside section u ≡ true → rests_in section u ≡ true → ⊥
+outside_rests section u outside within = both (not_stopped u.state) (rests_in section u) outside within
+  where
+    both : (a b : Bool) → a && not b ≡ true → b ≡ true → ⊥
+    both true true e f = cc
+    both false b e f = cc
+    both true false e f = cc
+
 -- a hart that isn't among them takes its steps in the one alone
 begun_one : (section : Option Section) (who : ℕ → Bool) (s w : World) (n : ℕ) → Ahead section who s w → who n ≡ false
     → Ahead section who (hart_begun section s n) w
@@ -147,10 +172,17 @@ begun_one section who s w n ahead no_ = by_case (runs_settled section s n) refl
       covers = covers_joined section (world_settled section s n) s w (settled_covers section s n) ahead.covers;
       same = λ h yes_. settled_other section s n h (λ e. true≢false (sym yes_ ∙ ap who e ∙ no_)) ∙ ahead.same h yes_;
       runs = λ h u no_h at. elim (cases_eq h n) [
-        | inl same ↦ ap still_runs (sym at ∙ ap (slice_get (world_settled section s n).harts) same) ∙ is
+        | inl same ↦ outside_runs section u (outside h u same at)
         | inr other ↦ ahead.runs h u no_h (sym (settled_other section s n h other) ∙ at)
       ];
+      stays = λ h u no_h at within. elim (cases_eq h n) [
+        | inl same ↦ absurd (outside_rests section u (outside h u same at) within)
+        | inr other ↦ ahead.stays h u no_h (sym (settled_other section s n h other) ∙ at) within
+      ];
     }
+      where
+        outside : (h : ℕ) (u : HartValue) → h ≡ n → slice_get (world_settled section s n).harts h ≡ Some u → runs_outside section u ≡ true
+        outside h u same at = ap (runs_outside_there section) (sym at ∙ ap (slice_get (world_settled section s n).harts) same) ∙ is
 
 begun_both : (section : Option Section) (who : ℕ → Bool) (s w : World) (n : ℕ) → Ahead section who s w → who n ≡ true
     → Ahead section who (hart_begun section s n) (hart_begun section w n)

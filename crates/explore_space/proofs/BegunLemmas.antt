@@ -10,14 +10,13 @@ use Rattle.hart_local.specs.LocalRuns.{plain_choices}
 use Rattle.machine.specs.Chosen.{is_chosen, own}
 use Rattle.machine.specs.World.{World, run}
 use Rattle.machine.specs.declared.choice.Choice.{Choice}
-use Rattle.explore_laws.specs.Bounds.{still_runs}
 use Rattle.explore_laws.specs.Places.{place_begun, place_reached}
 use Rattle.explore_laws.specs.Settling.{rested, rest_steps, at_once, settled_by, world_settled, settling_steps, turns_choices}
 use Rattle.explore_laws.proofs.OwnLemmas.{none_own, own_joined, own_plain}
 use Rattle.explore_laws.proofs.PlaceLemmas.{chosen_reached}
 use Rattle.explore_laws.proofs.SettleLemmas.{get_set_other, run_nothing, settled_is_run, there_set}
 use Rattle.explore_laws.proofs.TurnLemmas.{chosen_in_turns, run_joined, run_of_turns}
-use Rattle.explore_space.specs.Begun.{begun_choices, choices_from_start, first_steps, hart_begun, runs_settled, settled_start, world_begun}
+use Rattle.explore_space.specs.Begun.{begun_choices, choices_from_start, first_steps, hart_begun, runs_outside_there, runs_settled, settled_start, world_begun}
 use Rattle.explore_laws.specs.declared.section.Section.{Section}
 
 -- ---- one hart
@@ -75,7 +74,7 @@ settled_alike section s w n hart memory =
 
 pub runs_alike : (section : Option Section) (s w : World) (n : ℕ) → slice_get s.harts n ≡ slice_get w.harts n → s.memory ≡ w.memory
     → runs_settled section s n ≡ runs_settled section w n
-runs_alike section s w n hart memory = ap still_runs (settled_alike section s w n hart memory)
+runs_alike section s w n hart memory = ap (runs_outside_there section) (settled_alike section s w n hart memory)
 
 first_alike : (section : Option Section) (s w : World) (n : ℕ) → slice_get s.harts n ≡ slice_get w.harts n → s.memory ≡ w.memory
     → first_steps section s n ≡ first_steps section w n

@@ -1,5 +1,5 @@
 -- The ends at all keys are those of all lists of choices after which no hart runs.
-use Rattle.std.proofs.Common.{◌≡◌, ℕ, true, false, List, [], ◌++◌, length, take, Option, Some, ap, sym, ◌∙◌, subst, arith, None}
+use Rattle.std.proofs.Common.{◌≡◌, ℕ, true, false, List, [], ◌++◌, length, take, Option, Some, ap, sym, ◌∙◌, subst, arith}
 use Rattle.std.proofs.lemmas.List.{length-map, length-take-le}
 use Rattle.std.proofs.lemmas.List.Elements.{All-nil, All-contains}
 use Rattle.std.proofs.lemmas.Option.{slice_get_within, get_or_from_slice_get}
@@ -24,7 +24,7 @@ use Rattle.explore_search.specs.Counted.{IsLedTo}
 use Rattle.explore_space.specs.Begun.{begun_choices, settled_start}
 use Rattle.explore_space.specs.Ends.{EndValue, end_with, AreEndsAt, FitsHarts}
 use Rattle.explore_space.specs.Every.{meant_choices, IsListOf, StopsAll, run_end, AreAllEnds}
-use Rattle.explore_space.specs.Failing.{breaks_word, one_each, fails_there}
+use Rattle.explore_space.specs.Failing.{breaks_asked, one_each, fails_there}
 use Rattle.explore_space.specs.Places.{hart_numbered, place_of_key, IsKey}
 use Rattle.explore_space.specs.declared.meant.ScRefusals.{ScRefusals}
 use Rattle.explore_space.specs.declared.question.Always.{Always}
@@ -34,6 +34,7 @@ use Rattle.explore_space.proofs.EveryLemmas.{good_run, safe_is_safe, start_meant
 use Rattle.explore_space.proofs.StartLemmas.{HasStart, run_has_start}
 use Rattle.explore_space.proofs.StopLemmas.{same_harts, same_outcomes}
 use Rattle.explore_space.proofs.WordBreaks.{fails_not}
+use Rattle.explore_laws.specs.declared.section.Section.{Section}
 
 contains_at : {X : Type 0} (xs : List X) (k : ℕ) (x : X) → slice_get xs k ≡ Some x → Contains xs x
 contains_at xs k x e = (k, slice_get_within xs k x e, get_or_from_slice_get xs k x x e)
@@ -42,7 +43,7 @@ contains_at xs k x e = (k, slice_get_within xs k x e, get_or_from_slice_get xs k
 abbrev end_there : Option Kind → List ℕ → Place → EndValue
 end_there rule inputs p = end_with (judged rule inputs (one_each (length inputs) p.chosen) p.world.harts) p.world.harts
 
-module _ (rule : Option Kind) (always : Option Always) (refusals : ScRefusals) (image : ImageValue) (inputs : List ℕ) where
+module _ (rule : Option Kind) (always : Option Always) (section : Option Section) (refusals : ScRefusals) (image : ImageValue) (inputs : List ℕ) where
   abbrev meant : List Choice
   meant = meant_choices refusals (length inputs)
 
@@ -50,18 +51,18 @@ module _ (rule : Option Kind) (always : Option Always) (refusals : ScRefusals) (
   start = started image inputs
 
   abbrev first : World
-  first = settled_start None start
+  first = settled_start section start
 
   abbrev reached : List Choice → Place
-  reached turns = place_reached (place_begun None first) turns
+  reached turns = place_reached (place_begun section first) turns
 
   -- where no hart runs after a list, the place that stands for its run has the same end
-  same_place : (choices : List Choice) (found : HasStart None meant start choices) → StopsAll image inputs choices
+  same_place : (choices : List Choice) (found : HasStart section meant start choices) → StopsAll image inputs choices
       → (reached found.turns).world.harts ≡ (run start choices).harts
-  same_place choices found stops = same_harts None (reached found.turns).world (run start choices) found.place.covers stops
+  same_place choices found stops = same_harts section (reached found.turns).world (run start choices) found.place.covers stops
 
-  same_end : (choices : List Choice) (found : HasStart None meant start choices)
-      → IsSafe meant (place_begun None first) (fails_there rule always inputs)
+  same_end : (choices : List Choice) (found : HasStart section meant start choices)
+      → IsSafe meant (place_begun section first) (fails_there rule always section inputs)
       → StopsAll image inputs choices → end_there rule inputs (reached found.turns) ≡ run_end rule image inputs choices
   same_end choices found safe stops =
       let p = reached found.turns in
@@ -69,42 +70,42 @@ module _ (rule : Option Kind) (always : Option Always) (refusals : ScRefusals) (
       let hs = (run start choices).harts in
       let same = same_place choices found stops in
       let good = safe found.turns found.are_meant in
-      let both = fails_not (breaks_word always p.world) (fails May (judged rule inputs each p.world.harts)) good in
-      let run_good = good_run rule always refusals image inputs choices found good in
+      let both = fails_not (breaks_asked always section p.world) (fails May (judged rule inputs each p.world.harts)) good in
+      let run_good = good_run rule always section refusals image inputs choices found good in
       let outcome : judged rule inputs each p.world.harts ≡ judged rule inputs choices hs
       = ap (judged rule inputs each) same ∙ same_outcomes rule inputs each choices hs
       (subst (λ (xs : List HartValue). fails May (judged rule inputs each xs) ≡ false) same both.1)
-      (fails_not (breaks_word always (run start choices)) (fails May (judged rule inputs choices hs)) run_good).1 in
+      (fails_not (breaks_asked always section (run start choices)) (fails May (judged rule inputs choices hs)) run_good).1 in
       ap (λ o. end_with o p.world.harts) outcome ∙ ap (end_with (judged rule inputs choices hs)) same
 
   -- the first local steps of all harts, and turns
   abbrev list_of : List Choice → List Choice
-  list_of turns = begun_choices None start (λ k. true) (length start.harts) ++ turns_choices None first turns
+  list_of turns = begun_choices section start (λ k. true) (length start.harts) ++ turns_choices section first turns
 
   leads_there : (turns : List Choice) → run start (list_of turns) ≡ (reached turns).world
   leads_there turns =
-      run_joined start (begun_choices None start (λ k. true) (length start.harts)) (turns_choices None first turns)
-      ∙ ap (λ (x : World). run x (turns_choices None first turns)) (run_of_begun None start (λ k. true) (length start.harts))
-      ∙ run_of_turns None first turns
+      run_joined start (begun_choices section start (λ k. true) (length start.harts)) (turns_choices section first turns)
+      ∙ ap (λ (x : World). run x (turns_choices section first turns)) (run_of_begun section start (λ k. true) (length start.harts))
+      ∙ run_of_turns section first turns
 
   -- the run of these choices ends as the place does
-  turns_end : (turns : List Choice) → IsListOf meant turns → IsSafe meant (place_begun None first) (fails_there rule always inputs)
+  turns_end : (turns : List Choice) → IsListOf meant turns → IsSafe meant (place_begun section first) (fails_there rule always section inputs)
       → end_there rule inputs (reached turns) ≡ run_end rule image inputs (list_of turns)
   turns_end turns all safe =
       let p = reached turns in
       let list = list_of turns in
-      let good = safe_is_safe rule always refusals image inputs safe list (start_meant refusals image inputs (λ k. true) turns all) in
+      let good = safe_is_safe rule always section refusals image inputs safe list (start_meant section refusals image inputs (λ k. true) turns all) in
       let each = one_each (length inputs) p.chosen in
-      let there = fails_not (breaks_word always p.world) (fails May (judged rule inputs each p.world.harts)) (safe turns all) in
-      let here = fails_not (breaks_word always (run start list)) (fails May (judged rule inputs list (run start list).harts)) good in
+      let there = fails_not (breaks_asked always section p.world) (fails May (judged rule inputs each p.world.harts)) (safe turns all) in
+      let here = fails_not (breaks_asked always section (run start list)) (fails May (judged rule inputs list (run start list).harts)) good in
       ap (λ o. end_with o p.world.harts) (same_outcomes rule inputs each list p.world.harts there.1
       (subst (λ (x : World). fails May (judged rule inputs list x.harts) ≡ false) (leads_there turns) here.1))
       ∙ ap (λ (x : World). end_with (judged rule inputs list x.harts) x.harts) (sym (leads_there turns))
 
   -- keys of a search, over parts that are known
-  module _ {Z : Type 0} (other : ImageValue) (harts : List Hart) (shareds : List (Shared Z)) (keys : List (List ℕ)) where
+  module _ {Z : Type 0} (kept : Option Section) (other : ImageValue) (harts : List Hart) (shareds : List (Shared Z)) (keys : List (List ℕ)) where
     abbrev Reached : ℕ → Type 0
-    Reached n = AreAllReached (IsKey other n harts shareds) (place_of_key other n harts shareds) meant (place_begun None first) keys
+    Reached n = AreAllReached (IsKey other n harts shareds) (place_of_key kept other n harts shareds) meant (place_begun section first) keys
 
     -- they have as many harts as there are inputs
     pub count_is : (n : ℕ) → Reached n → n ≡ length inputs
@@ -116,7 +117,7 @@ module _ (rule : Option Kind) (always : Option Always) (refusals : ScRefusals) (
         let taken = length-take-le n seen.key (omega (arith, len)) in
         let mapped = length-map (take n seen.key) (hart_numbered harts) in
         sym (mapped ∙ taken) ∙ ap (λ (p : Place). length p.world.harts) seen.is
-        ∙ begun_count None start (λ k. true) (length start.harts) ∙ length-started image inputs
+        ∙ begun_count section start (λ k. true) (length start.harts) ∙ length-started image inputs
 
     keys_fit : Reached (length inputs) → All (FitsHarts (length inputs) (length harts)) keys
     keys_fit r k d low = let is = r.are k d low in (is.len, is.harts)
@@ -124,11 +125,11 @@ module _ (rule : Option Kind) (always : Option Always) (refusals : ScRefusals) (
     pub all_fit : (n : ℕ) → Reached n → All (FitsHarts (length inputs) (length harts)) keys
     all_fit n r = keys_fit (subst Reached (count_is n r) r)
 
-    ends_all : (ends : List EndValue) → Reached (length inputs) → IsSafe meant (place_begun None first) (fails_there rule always inputs)
+    ends_all : (ends : List EndValue) → Reached (length inputs) → IsSafe meant (place_begun section first) (fails_there rule always section inputs)
         → AreEndsAt rule inputs harts keys ends → AreAllEnds rule refusals image inputs ends
     ends_all ends r safe at = record {
       all = λ choices all stops.
-          let found = run_has_start None meant start choices all in
+          let found = run_has_start section meant start choices all in
           let seen = r.all found.turns found.are_meant in
           let stopped = ap (λ (p : Place). some_run p.world.harts) seen.is
           ∙ ap (λ (xs : List HartValue). some_run xs) (same_place choices found stops) ∙ stops in
@@ -136,11 +137,11 @@ module _ (rule : Option Kind) (always : Option Always) (refusals : ScRefusals) (
           (at.all seen.key (contains_at keys seen.number seen.key seen.there) stopped);
       each = λ end there.
           let is = at.each end there in
-          let led = All-contains (λ key. IsLedTo meant (place_begun None first) (place_of_key other (length inputs) harts shareds key)) keys is.key
+          let led = All-contains (λ key. IsLedTo meant (place_begun section first) (place_of_key kept other (length inputs) harts shareds key)) keys is.key
           r.led_to is.there in
           record {
             choices = list_of led.list;
-            meant_ones = start_meant refusals image inputs (λ k. true) led.list led.meant;
+            meant_ones = start_meant section refusals image inputs (λ k. true) led.list led.meant;
             stops = ap (λ (x : World). some_run x.harts) (leads_there led.list)
                 ∙ ap (λ (p : Place). some_run p.world.harts) led.leads ∙ is.stopped;
             is = sym (turns_end led.list led.meant safe) ∙ ap (end_there rule inputs) led.leads ∙ is.is;
@@ -148,6 +149,6 @@ module _ (rule : Option Kind) (always : Option Always) (refusals : ScRefusals) (
       once = at.once;
     }
 
-    pub ends_are_all : (n : ℕ) (ends : List EndValue) → Reached n → IsSafe meant (place_begun None first) (fails_there rule always inputs)
+    pub ends_are_all : (n : ℕ) (ends : List EndValue) → Reached n → IsSafe meant (place_begun section first) (fails_there rule always section inputs)
         → AreEndsAt rule inputs harts keys ends → AreAllEnds rule refusals image inputs ends
     ends_are_all n ends r safe at = ends_all ends (subst Reached (count_is n r) r) safe at

@@ -25,13 +25,13 @@ use Rattle.explore_search.specs.Answers.{LeadsToBad}
 use Rattle.explore_search.specs.declared.searching.Found.{Found}
 use Rattle.explore_space.specs.Begun.{begun_choices, choices_from_start, settled_start, world_begun}
 use Rattle.explore_space.specs.Every.{hart_choices, meant_choices, IsListOf, run_fails, FailsFirst}
-use Rattle.explore_space.specs.Failing.{breaks_word, one_each, fails_there}
+use Rattle.explore_space.specs.Failing.{breaks_asked, one_each, fails_there}
 use Rattle.explore_space.specs.declared.meant.ScRefusals.{ScRefusals}
 use Rattle.explore_space.specs.declared.meant.ScRefusals.TheVariants.{Also, Never}
 use Rattle.explore_space.specs.declared.question.Always.{Always}
 use Rattle.explore_space.proofs.MarkLemmas.{chosen_below, chosen_past}
 use Rattle.explore_space.proofs.PassLemmas.{covered_stops, passes}
-use Rattle.explore_space.proofs.WordBreaks.{fails_neither, fails_not, same_break}
+use Rattle.explore_space.proofs.WordBreaks.{ahead_breaks, covered_breaks, fails_neither, fails_not}
 use Rattle.explore_space.proofs.BegunLemmas.{start_chosen}
 use Rattle.explore_space.proofs.AheadLemmas.{all_run, fails_ahead, start_ahead}
 use Rattle.explore_space.proofs.StartLemmas.{HasStart, begun_meant, run_has_start}
@@ -98,11 +98,11 @@ module _ (refusals : ScRefusals) (n : ℕ) where
 
 -- ---- verdicts
 -- a choice of each hart that turns choose, and the turns
-pub alike : (refusals : ScRefusals) (n : ℕ) (w : World) (turns : List Choice) → IsListOf (meant_choices refusals n) turns
-    → ChooseAlike (one_each n (place_reached (place_begun None w) turns).chosen) turns
-alike refusals n w turns all k = elim (cases_lt k n) [
-  | inl low ↦ chosen_below n (place_reached (place_begun None w) turns).chosen k low ∙ chosen_reached None w turns k
-  | inr past ↦ chosen_past n (place_reached (place_begun None w) turns).chosen k past ∙ sym (none_past refusals n turns k past all)
+pub alike : (section : Option Section) (refusals : ScRefusals) (n : ℕ) (w : World) (turns : List Choice) → IsListOf (meant_choices refusals n) turns
+    → ChooseAlike (one_each n (place_reached (place_begun section w) turns).chosen) turns
+alike section refusals n w turns all k = elim (cases_lt k n) [
+  | inl low ↦ chosen_below n (place_reached (place_begun section w) turns).chosen k low ∙ chosen_reached section w turns k
+  | inr past ↦ chosen_past n (place_reached (place_begun section w) turns).chosen k past ∙ sym (none_past refusals n turns k past all)
 ]
 
 pub same_judgement : (rule : Option Kind) (inputs : List ℕ) (a b : List Choice) (harts : List HartValue) → ChooseAlike a b
@@ -111,38 +111,38 @@ same_judgement None inputs a b harts same = refl
 same_judgement (Some kind) inputs a b harts same = ap (λ v. outcome_of (Some v) harts) (same_verdict kind inputs a b harts same)
 
 -- where turns lead, their own run has failed exactly where the place has
-fails_alike : (rule : Option Kind) (always : Option Always) (refusals : ScRefusals) (image : ImageValue) (inputs : List ℕ) (turns : List Choice)
+fails_alike : (rule : Option Kind) (always : Option Always) (section : Option Section) (refusals : ScRefusals) (image : ImageValue) (inputs : List ℕ) (turns : List Choice)
     → IsListOf (meant_choices refusals (length inputs)) turns
-    → fails_there rule always inputs (place_reached (place_begun None (settled_start None (started image inputs))) turns)
-    ≡ run_fails rule always image inputs (choices_from_start None (started image inputs) turns)
-fails_alike rule always refusals image inputs turns all =
+    → fails_there rule always section inputs (place_reached (place_begun section (settled_start section (started image inputs))) turns)
+    ≡ run_fails rule always section image inputs (choices_from_start section (started image inputs) turns)
+fails_alike rule always section refusals image inputs turns all =
     let w = started image inputs in
-    let p = place_reached (place_begun None (settled_start None w)) turns in
-    let list = choices_from_start None w turns in
+    let p = place_reached (place_begun section (settled_start section w)) turns in
+    let list = choices_from_start section w turns in
     let each = one_each (length inputs) p.chosen in
-    let ahead = start_ahead None w turns (all_run image inputs) in
+    let ahead = start_ahead section w turns (all_run image inputs) in
     ap (λ (b : Bool). b || fails May (judged rule inputs each p.world.harts))
-    (same_break always p.world (run w list) ahead.covers.memory)
-    ∙ ap (λ (b : Bool). breaks_word always (run w list) || b)
-    (fails_ahead None rule inputs (is_chosen turns) p.world (run w list) each list ahead
-    (λ k. alike refusals (length inputs) (settled_start None w) turns all k ∙ sym (start_chosen None w turns k)))
+    (ahead_breaks always section (is_chosen turns) p.world (run w list) ahead)
+    ∙ ap (λ (b : Bool). breaks_asked always section (run w list) || b)
+    (fails_ahead section rule inputs (is_chosen turns) p.world (run w list) each list ahead
+    (λ k. alike section refusals (length inputs) (settled_start section w) turns all k ∙ sym (start_chosen section w turns k)))
 
 -- a run fails in no other way than the place that stands for it
-pub good_run : (rule : Option Kind) (always : Option Always) (refusals : ScRefusals) (image : ImageValue) (inputs : List ℕ) (choices : List Choice)
-    (found : HasStart None (meant_choices refusals (length inputs)) (started image inputs) choices)
-    → fails_there rule always inputs (place_reached (place_begun None (settled_start None (started image inputs))) found.turns) ≡ false
-    → run_fails rule always image inputs choices ≡ false
-good_run rule always refusals image inputs choices found good =
+pub good_run : (rule : Option Kind) (always : Option Always) (section : Option Section) (refusals : ScRefusals) (image : ImageValue) (inputs : List ℕ) (choices : List Choice)
+    (found : HasStart section (meant_choices refusals (length inputs)) (started image inputs) choices)
+    → fails_there rule always section inputs (place_reached (place_begun section (settled_start section (started image inputs))) found.turns) ≡ false
+    → run_fails rule always section image inputs choices ≡ false
+good_run rule always section refusals image inputs choices found good =
     let w = started image inputs in
-    let s = settled_start None w in
-    let p = place_reached (place_begun None s) found.turns in
+    let s = settled_start section w in
+    let p = place_reached (place_begun section s) found.turns in
     let each = one_each (length inputs) p.chosen in
-    let both = fails_not (breaks_word always p.world) (fails May (judged rule inputs each p.world.harts)) good in
-    fails_neither (breaks_word always (run w choices)) (fails May (judged rule inputs choices (run w choices).harts))
-    (sym (same_break always p.world (run w choices) found.place.covers.memory) ∙ both.0)
+    let both = fails_not (breaks_asked always section p.world) (fails May (judged rule inputs each p.world.harts)) good in
+    fails_neither (breaks_asked always section (run w choices)) (fails May (judged rule inputs choices (run w choices).harts))
+    (covered_breaks always section p.world (run w choices) found.place.covers both.0)
     (passes rule inputs p.world.harts (run w choices).harts each choices
-    (covered_stops None p.world (run w choices) found.place.covers)
-    (λ k e. found.place.fewer k (chosen_reached None s found.turns k ∙ sym (alike refusals (length inputs) s found.turns found.are_meant k) ∙ e)) both.1)
+    (covered_stops section p.world (run w choices) found.place.covers)
+    (λ k e. found.place.fewer k (chosen_reached section s found.turns k ∙ sym (alike section refusals (length inputs) s found.turns found.are_meant k) ∙ e)) both.1)
 
 -- the choices of turns from the start are meant
 pub plains : (refusals : ScRefusals) (image : ImageValue) (inputs : List ℕ) (h : ℕ) → h < length (started image inputs).harts
@@ -150,51 +150,53 @@ pub plains : (refusals : ScRefusals) (image : ImageValue) (inputs : List ℕ) (h
 plains refusals image inputs h low =
     plain_meant refusals (length inputs) h (let c = length-started image inputs in omega (arith, c, low))
 
-pub start_meant : (refusals : ScRefusals) (image : ImageValue) (inputs : List ℕ) (asked : ℕ → Bool) (turns : List Choice)
+pub start_meant : (section : Option Section) (refusals : ScRefusals) (image : ImageValue) (inputs : List ℕ) (asked : ℕ → Bool) (turns : List Choice)
     → IsListOf (meant_choices refusals (length inputs)) turns
-    → IsListOf (meant_choices refusals (length inputs)) (begun_choices None (started image inputs) asked (length (started image inputs).harts)
-    ++ turns_choices None (world_begun None (started image inputs) asked (length (started image inputs).harts)) turns)
-start_meant refusals image inputs asked turns all =
+    → IsListOf (meant_choices refusals (length inputs)) (begun_choices section (started image inputs) asked (length (started image inputs).harts)
+    ++ turns_choices section (world_begun section (started image inputs) asked (length (started image inputs).harts)) turns)
+start_meant section refusals image inputs asked turns all =
     let w = started image inputs in
     let n = length w.harts in
-    All-append (Contains (meant_choices refusals (length inputs))) (begun_choices None w asked n) (turns_choices None (world_begun None w asked n) turns)
-    (begun_meant None (meant_choices refusals (length inputs)) w (plains refusals image inputs) asked n (omega arith))
-    (turns_meant refusals (length inputs) None (world_begun None w asked n) turns all)
+    All-append (Contains (meant_choices refusals (length inputs))) (begun_choices section w asked n) (turns_choices section (world_begun section w asked n) turns)
+    (begun_meant section (meant_choices refusals (length inputs)) w (plains refusals image inputs) asked n (omega arith))
+    (turns_meant refusals (length inputs) section (world_begun section w asked n) turns all)
 
 -- ---- an answer for places is one for runs
-pub safe_is_safe : (rule : Option Kind) (always : Option Always) (refusals : ScRefusals) (image : ImageValue) (inputs : List ℕ)
-    → IsSafe (meant_choices refusals (length inputs)) (place_begun None (settled_start None (started image inputs))) (fails_there rule always inputs)
-    → (choices : List Choice) → IsListOf (meant_choices refusals (length inputs)) choices → run_fails rule always image inputs choices ≡ false
-safe_is_safe rule always refusals image inputs safe choices all =
-    let found = run_has_start None (meant_choices refusals (length inputs)) (started image inputs) choices all in
-    good_run rule always refusals image inputs choices found (safe found.turns found.are_meant)
+pub safe_is_safe : (rule : Option Kind) (always : Option Always) (section : Option Section) (refusals : ScRefusals) (image : ImageValue) (inputs : List ℕ)
+    → IsSafe (meant_choices refusals (length inputs)) (place_begun section (settled_start section (started image inputs))) (fails_there rule always section inputs)
+    → (choices : List Choice) → IsListOf (meant_choices refusals (length inputs)) choices → run_fails rule always section image inputs choices ≡ false
+safe_is_safe rule always section refusals image inputs safe choices all =
+    let found = run_has_start section (meant_choices refusals (length inputs)) (started image inputs) choices all in
+    good_run rule always section refusals image inputs choices found (safe found.turns found.are_meant)
 
-pub bad_is_bad : (rule : Option Kind) (always : Option Always) (refusals : ScRefusals) (image : ImageValue) (inputs : List ℕ) (turns choices : List Choice) (count : ℕ)
-    → LeadsToBad (meant_choices refusals (length inputs)) (place_begun None (settled_start None (started image inputs))) (fails_there rule always inputs) turns
-    → choices ≡ choices_from_start None (started image inputs) turns → length turns ≡ count
-    → FailsFirst (meant_choices refusals (length inputs)) (started image inputs) (run_fails rule always image inputs) choices count
-bad_is_bad rule always refusals image inputs turns choices count bad is count_is =
+pub bad_is_bad : (rule : Option Kind) (always : Option Always) (section : Option Section) (refusals : ScRefusals) (image : ImageValue) (inputs : List ℕ) (turns choices : List Choice) (count : ℕ)
+    → LeadsToBad (meant_choices refusals (length inputs)) (place_begun section (settled_start section (started image inputs))) (fails_there rule always section inputs) turns
+    → choices ≡ choices_from_start section (started image inputs) turns → length turns ≡ count
+    → FailsFirst section (meant_choices refusals (length inputs)) (started image inputs) (run_fails rule always section image inputs) choices count
+bad_is_bad rule always section refusals image inputs turns choices count bad is count_is =
     let w = started image inputs in
     record {
       turns = turns;
       count_is = count_is;
       choices_are = is;
       meant_ones = subst (IsListOf (meant_choices refusals (length inputs))) (sym is)
-          (start_meant refusals image inputs (is_chosen turns) turns bad.meant);
+          (start_meant section refusals image inputs (is_chosen turns) turns bad.meant);
       meant_turns = bad.meant;
-      fails = ap (run_fails rule always image inputs) is ∙ sym (fails_alike rule always refusals image inputs turns bad.meant) ∙ bad.ends;
+      fails = ap (run_fails rule always section image inputs) is ∙ sym (fails_alike rule always section refusals image inputs turns bad.meant) ∙ bad.ends;
       fewest = λ other all less.
-          sym (fails_alike rule always refusals image inputs other all) ∙ bad.shortest other all (omega (arith, less, count_is));
+          sym (fails_alike rule always section refusals image inputs other all) ∙ bad.shortest other all (omega (arith, less, count_is));
       shortest = λ other all less.
-          let found = run_has_start None (meant_choices refusals (length inputs)) w other all in
-          good_run rule always refusals image inputs other found
+          let found = run_has_start section (meant_choices refusals (length inputs)) w other all in
+          good_run rule always section refusals image inputs other found
           (bad.shortest found.turns found.are_meant (let few = found.no_more in omega (arith, few, less, count_is)));
     }
 
 -- the same by equal parts
-pub moved : {Z : Type 0} (P : List Choice → ImageValue → List ℕ → Option Kind → Option Always → Found Z → Type 0) {m1 m2 : List Choice}
-    {i1 i2 : ImageValue} {n1 n2 : List ℕ} {r1 r2 : Option Kind} {a1 a2 : Option Always} {f1 f2 : Found Z}
-    → m1 ≡ m2 → i1 ≡ i2 → n1 ≡ n2 → r1 ≡ r2 → a1 ≡ a2 → f1 ≡ f2 → P m1 i1 n1 r1 a1 f1 → P m2 i2 n2 r2 a2 f2
-moved P {m1} {m2} {i1} {i2} {n1} {n2} {r1} {r2} {a1} {a2} {f1} {f2} m i n r a f p =
-    subst (P m2 i2 n2 r2 a2) f (subst (λ x. P m2 i2 n2 r2 x f1) a (subst (λ x. P m2 i2 n2 x a1 f1) r
-    (subst (λ x. P m2 i2 x r1 a1 f1) n (subst (λ x. P m2 x n1 r1 a1 f1) i (subst (λ x. P x i1 n1 r1 a1 f1) m p)))))
+pub moved : {Z : Type 0} (P : List Choice → ImageValue → List ℕ → Option Kind → Option Always → Option Section → Found Z → Type 0)
+    {m1 m2 : List Choice} {i1 i2 : ImageValue} {n1 n2 : List ℕ} {r1 r2 : Option Kind} {a1 a2 : Option Always} {s1 s2 : Option Section}
+    {f1 f2 : Found Z} → m1 ≡ m2 → i1 ≡ i2 → n1 ≡ n2 → r1 ≡ r2 → a1 ≡ a2 → s1 ≡ s2 → f1 ≡ f2 → P m1 i1 n1 r1 a1 s1 f1
+    → P m2 i2 n2 r2 a2 s2 f2
+moved P {m1} {m2} {i1} {i2} {n1} {n2} {r1} {r2} {a1} {a2} {s1} {s2} {f1} {f2} m i n r a s f p =
+    subst (P m2 i2 n2 r2 a2 s2) f (subst (λ x. P m2 i2 n2 r2 a2 x f1) s (subst (λ x. P m2 i2 n2 r2 x s1 f1) a
+    (subst (λ x. P m2 i2 n2 x a1 s1 f1) r (subst (λ x. P m2 i2 x r1 a1 s1 f1) n (subst (λ x. P m2 x n1 r1 a1 s1 f1) i
+    (subst (λ x. P x i1 n1 r1 a1 s1 f1) m p))))))

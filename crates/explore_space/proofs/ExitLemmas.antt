@@ -42,12 +42,13 @@ use Rattle.explore_space.proofs.BegunLemmas.{begun_count}
 use Rattle.explore_space.proofs.EveryLemmas.{plain_meant, start_meant, turns_meant}
 use Rattle.explore_space.proofs.StartLemmas.{covered_follow, run_has_start}
 use Rattle.explore_space.proofs.StopLemmas.{same_harts}
+use Rattle.explore_laws.specs.declared.section.Section.{Section}
 
 stopped : (b : Bool) → not b ≡ true → b ≡ false
 stopped false e = refl
 stopped true e = absurd (let no : false ≡ true = e in cc)
 
-module _ (refusals : ScRefusals) (image : ImageValue) (inputs : List ℕ) where
+module _ (section : Option Section) (refusals : ScRefusals) (image : ImageValue) (inputs : List ℕ) where
   abbrev meant : List Choice
   meant = meant_choices refusals (length inputs)
 
@@ -55,10 +56,10 @@ module _ (refusals : ScRefusals) (image : ImageValue) (inputs : List ℕ) where
   start = started image inputs
 
   abbrev first : World
-  first = settled_start None start
+  first = settled_start section start
 
   abbrev reached : List Choice → Place
-  reached turns = place_reached (place_begun None first) turns
+  reached turns = place_reached (place_begun section first) turns
 
   -- turns lead out of a place where their choices lead out of its world
   place_exit : (p : Place) → HasWayOut meant ends_there p → HasExit meant p.world
@@ -70,7 +71,7 @@ module _ (refusals : ScRefusals) (image : ImageValue) (inputs : List ℕ) where
   }
 
   -- and a world out of which choices lead is covered by no place without a way out
-  exit_place : (p : Place) (w : World) → p.section ≡ None → WorldCovers None p.world w → HasExit meant w → HasWayOut meant ends_there p
+  exit_place : (p : Place) (w : World) → p.section ≡ section → WorldCovers section p.world w → HasExit meant w → HasWayOut meant ends_there p
   exit_place p w is covers exit =
       let found = covered_follow meant p w exit.choices (subst (λ x. WorldCovers x p.world w) (sym is) covers) exit.meant_ones in
       let harts = same_harts p.section (place_reached p found.0).world (run w exit.choices) found.2 exit.stops in
@@ -81,9 +82,9 @@ module _ (refusals : ScRefusals) (image : ImageValue) (inputs : List ℕ) where
       }
 
   -- local steps lead to a world that covers another, and so out of that one
-  covered_exit : (s w : World) → length s.harts ≡ length inputs → WorldCovers None s w → HasExit meant s → HasExit meant w
+  covered_exit : (s w : World) → length s.harts ≡ length inputs → WorldCovers section s w → HasExit meant s → HasExit meant w
   covered_exit s w count covers exit =
-      let there = walks_there meant s (λ h low. plain_meant refusals (length inputs) h (omega (arith, low, count))) None w covers in
+      let there = walks_there meant s (λ h low. plain_meant refusals (length inputs) h (omega (arith, low, count))) section w covers in
       record {
         choices = there.0 ++ exit.choices;
         meant_ones = All-append (Contains meant) there.0 exit.choices there.1 exit.meant_ones;
@@ -93,58 +94,58 @@ module _ (refusals : ScRefusals) (image : ImageValue) (inputs : List ℕ) where
 
   count_of : (turns : List Choice) → length (reached turns).world.harts ≡ length inputs
   count_of turns =
-      ap (λ (x : World). length x.harts) (sym (run_of_turns None first turns)) ∙ run_length first (turns_choices None first turns)
-      ∙ begun_count None start (λ k. true) (length start.harts) ∙ length-started image inputs
+      ap (λ (x : World). length x.harts) (sym (run_of_turns section first turns)) ∙ run_length first (turns_choices section first turns)
+      ∙ begun_count section start (λ k. true) (length start.harts) ∙ length-started image inputs
 
   -- what leads out of a place leads out of each world that it covers
-  run_exit : (turns : List Choice) (w : World) → WorldCovers None (reached turns).world w → HasWayOut meant ends_there (reached turns)
+  run_exit : (turns : List Choice) (w : World) → WorldCovers section (reached turns).world w → HasWayOut meant ends_there (reached turns)
       → HasExit meant w
   run_exit turns w covers way =
       covered_exit (reached turns).world w (count_of turns) covers (place_exit (reached turns) way)
 
-  exits_all : HaveWaysOut meant (place_begun None first) ends_there → (choices : List Choice) → IsListOf meant choices
+  exits_all : HaveWaysOut meant (place_begun section first) ends_there → (choices : List Choice) → IsListOf meant choices
       → HasExit meant (run start choices)
   exits_all ways choices all =
-      let found = run_has_start None meant start choices all in
+      let found = run_has_start section meant start choices all in
       run_exit found.turns (run start choices) found.place.covers (ways found.turns found.are_meant)
 
-  covers_list : (turns : List Choice) → WorldCovers None (reached turns).world (run start (choices_from_start None start turns))
-  covers_list turns = (start_ahead None start turns (all_run image inputs)).covers
+  covers_list : (turns : List Choice) → WorldCovers section (reached turns).world (run start (choices_from_start section start turns))
+  covers_list turns = (start_ahead section start turns (all_run image inputs)).covers
 
-  hangs_first : (turns choices : List Choice) (count : ℕ) → LeadsToStuck meant (place_begun None first) ends_there turns
-      → choices ≡ choices_from_start None start turns → length turns ≡ count → HangsFirst meant start choices count
+  hangs_first : (turns choices : List Choice) (count : ℕ) → LeadsToStuck meant (place_begun section first) ends_there turns
+      → choices ≡ choices_from_start section start turns → length turns ≡ count → HangsFirst section meant start choices count
   hangs_first turns choices count leads is count_is = record {
     turns = turns;
     meant_turns = leads.meant;
     count_is = count_is;
     choices_are = is;
-    meant_ones = subst (IsListOf meant) (sym is) (start_meant refusals image inputs (is_chosen turns) turns leads.meant);
-    hangs = λ exit. leads.stuck (exit_place (reached turns) (run start choices) (section_reached (place_begun None first) turns)
-        (subst (λ (cs : List Choice). WorldCovers None (reached turns).world (run start cs)) (sym is) (covers_list turns)) exit);
+    meant_ones = subst (IsListOf meant) (sym is) (start_meant section refusals image inputs (is_chosen turns) turns leads.meant);
+    hangs = λ exit. leads.stuck (exit_place (reached turns) (run start choices) (section_reached (place_begun section first) turns)
+        (subst (λ (cs : List Choice). WorldCovers section (reached turns).world (run start cs)) (sym is) (covers_list turns)) exit);
     fewest = λ other all less.
-        run_exit other (run start (choices_from_start None start other)) (covers_list other)
+        run_exit other (run start (choices_from_start section start other)) (covers_list other)
         (leads.nearest other all (omega (arith, less, count_is)));
     shortest = λ other all less.
-        let found = run_has_start None meant start other all in
+        let found = run_has_start section meant start other all in
         run_exit found.turns (run start other) found.place.covers (leads.nearest found.turns found.are_meant
         (let few = found.no_more in omega (arith, few, less, count_is)));
   }
 
   -- ---- an answer for places is one for runs
   pub held_exits : {Z : Type 0} (exit : Exit) (held : Held Z) (found : Option (Vec Choice Z)) → found ≡ None
-      → AnswersExit exit meant (place_begun None first) found → TellsExits exit refusals image inputs (Holds held)
+      → AnswersExit exit meant (place_begun section first) found → TellsExits section exit refusals image inputs (Holds held)
   held_exits May held found none answers = tt
   held_exits Must held found none answers =
-      exits_all (subst (AnswersExit Must meant (place_begun None first)) none answers)
+      exits_all (subst (AnswersExit Must meant (place_begun section first)) none answers)
 
   pub hanging_exits : {Z : Type 0} (exit : Exit) (hanging : Failing Z) (found : Option (Vec Choice Z)) (turns : Vec Choice Z)
-      → found ≡ Some turns → AnswersExit exit meant (place_begun None first) found
-      → hanging.choices.items ≡ choices_from_start None start turns.items → length turns.items ≡ hanging.turns
-      → TellsExits exit refusals image inputs (Hangs hanging)
+      → found ≡ Some turns → AnswersExit exit meant (place_begun section first) found
+      → hanging.choices.items ≡ choices_from_start section start turns.items → length turns.items ≡ hanging.turns
+      → TellsExits section exit refusals image inputs (Hangs hanging)
   hanging_exits May hanging found turns is none choices count = absurd (cc)
   hanging_exits Must hanging found turns is answers choices count =
       hangs_first turns.items hanging.choices.items hanging.turns
-      (subst (AnswersExit Must meant (place_begun None first)) is answers) choices count
+      (subst (AnswersExit Must meant (place_begun section first)) is answers) choices count
 
 -- the same by equal parts
 pub moved_exit : {Z : Type 0} (exit : Exit) {ms ns : List Choice} {p q : Place} (found : Option (Vec Choice Z)) → ms ≡ ns → p ≡ q

@@ -29,6 +29,7 @@ use Rattle.explore_search.specs.Searched.{GoesOn}
 use Rattle.explore_space.specs.Places.{hart_in, hart_numbered, cells_in, marks_in, memory_over, world_of_key, place_of_key, PartsStep, IsKey, IsKeyOf, KeptOnce, KeysStay}
 use Rattle.explore_space.specs.declared.shared.Shared.{Shared}
 use Rattle.explore_space.proofs.WorldLemmas.{get_within, map_same, taken, memory_after, world_after, marked, unmarked, chosen_after}
+use Rattle.explore_laws.specs.declared.section.Section.{Section}
 
 pub longer_length : {X : Type 0} (xs ys : List X) → GoesOn xs ys → length xs ≤ length ys
 longer_length xs ys goes = let e = ap length goes.1 ∙ length-append xs goes.0 in omega (arith, e)
@@ -51,12 +52,12 @@ module _ {Z : Type 0} (image : ImageValue) (n : ℕ) (harts more_harts : List Ha
   abbrev world_by : List HartValue → Option (Shared Z) → World
   world_by hs o = record { harts = hs; memory = memory_over (image_memory image) (words_shown image (cells_in o)); reserved = marks_in o }
 
-  abbrev place_by : World → Place
-  place_by w = record { section = None; world = w; chosen = λ k. slice_index key (n + 1 + k) == 1 }
+  abbrev place_by : Option Section → World → Place
+  place_by section w = record { section = section; world = w; chosen = λ k. slice_index key (n + 1 + k) == 1 }
 
-  pub place_stays : place_of_key image n more_harts more_shareds key ≡ place_of_key image n harts shareds key
-  place_stays = ap (λ hs. place_by (world_by hs (slice_get more_shareds (slice_index key n)))) all_same
-      ∙ ap (λ o. place_by (world_by (map (hart_numbered harts) (take n key)) o)) shared_same
+  pub place_stays : (section : Option Section) → place_of_key section image n more_harts more_shareds key ≡ place_of_key section image n harts shareds key
+  place_stays section = ap (λ hs. place_by section (world_by hs (slice_get more_shareds (slice_index key n)))) all_same
+      ∙ ap (λ o. place_by section (world_by (map (hart_numbered harts) (take n key)) o)) shared_same
 
   pub key_stays : KeptOnce image more_harts more_shareds → IsKey image n more_harts more_shareds key
   key_stays once = record {
@@ -171,14 +172,15 @@ module _ {Z : Type 0} (image : ImageValue) (n : ℕ) (harts more_harts : List Ha
       world_of : Option (Shared Z) → World
       world_of o = record { harts = map g (take n next); memory = memory_over m (words_shown image (cells_in o)); reserved = marks_in o }
 
-  next_place : place_of_key image n more_harts more_shareds next ≡ place_stepped (place_of_key image n harts shareds key) c
-  next_place =
+  next_place : (section : Option Section)
+      → place_of_key section image n more_harts more_shareds next ≡ place_stepped (place_of_key section image n harts shareds key) c
+  next_place section =
       let chosen : (λ (k : ℕ). slice_index next (n + 1 + k) == 1) ≡ (λ (k : ℕ). (number == k) || (slice_index key (n + 1 + k) == 1))
       = λ i k. chosen_after m n number id shared_id (slice_index key number) key next f g values new_values r new_r refuse low is.len next_is there same k i in
       ap (λ (x : World). place_of x (λ k. slice_index next (n + 1 + k) == 1)) next_world ∙ ap (place_of (step w c)) chosen
     where
       place_of : World → (ℕ → Bool) → Place
-      place_of x y = record { section = None; world = x; chosen = y }
+      place_of x y = record { section = section; world = x; chosen = y }
 
   flags_then : (k : ℕ) → slice_index next (n + 1 + k) ≤ 1
   flags_then k = elim (cases_eq number k) [
@@ -214,9 +216,9 @@ module _ {Z : Type 0} (image : ImageValue) (n : ℕ) (harts more_harts : List Ha
       taken_is : take n next ≡ set (take n key) number id
       taken_is = taken m n number id shared_id (slice_index key number) key next f g values new_values r new_r refuse low is.len next_is there same
 
-  pub next_is_key : KeptOnce image more_harts more_shareds
-      → IsKeyOf image n more_harts more_shareds next (place_stepped (place_of_key image n harts shareds key) c)
-  next_is_key once = (next_key once, next_place)
+  pub next_is_key : KeptOnce image more_harts more_shareds → (section : Option Section)
+      → IsKeyOf section image n more_harts more_shareds next (place_stepped (place_of_key section image n harts shareds key) c)
+  next_is_key once section = (next_key once, next_place section)
 
 -- the same step by equal parts
 pub steps_moved : (T : StepTable HartValue) (k : ℕ) (refuse : Bool) (h a new_h b : HartValue) (values d new_values e : ℕ → WordBytes)
@@ -228,24 +230,24 @@ steps_moved T k refuse h a new_h b values d new_values e r q new_r p steps a_is 
 -- keys and places stay
 pub kept : {Z : Type 0} (image : ImageValue) (n : ℕ) (harts more_harts : List Hart) (shareds more_shareds : List (Shared Z))
     → GoesOn harts more_harts → GoesOn shareds more_shareds → (KeptOnce image harts shareds → KeptOnce image more_harts more_shareds)
-    → KeysStay image n harts shareds more_harts more_shareds
-kept image n harts more_harts shareds more_shareds harts_go shareds_go once key is = (
+    → (section : Option Section) → KeysStay section image n harts shareds more_harts more_shareds
+kept image n harts more_harts shareds more_shareds harts_go shareds_go once section key is = (
   key_stays image n harts more_harts shareds more_shareds harts_go shareds_go key is (once is.once),
-  place_stays image n harts more_harts shareds more_shareds harts_go shareds_go key is,
+  place_stays image n harts more_harts shareds more_shareds harts_go shareds_go key is section,
 )
 
-pub kept_on : {Z : Type 0} (image : ImageValue) (n : ℕ) (harts more_harts all_harts : List Hart) (shareds more_shareds : List (Shared Z))
-    → KeysStay image n harts shareds more_harts more_shareds → KeysStay image n more_harts more_shareds all_harts more_shareds
-    → KeysStay image n harts shareds all_harts more_shareds
-kept_on image n harts more_harts all_harts shareds more_shareds first second key is =
+pub kept_on : {Z : Type 0} (section : Option Section) (image : ImageValue) (n : ℕ) (harts more_harts all_harts : List Hart) (shareds more_shareds : List (Shared Z))
+    → KeysStay section image n harts shareds more_harts more_shareds → KeysStay section image n more_harts more_shareds all_harts more_shareds
+    → KeysStay section image n harts shareds all_harts more_shareds
+kept_on section image n harts more_harts all_harts shareds more_shareds first second key is =
     let a = first key is in
     let b = second key a.0 in (b.0, b.1 ∙ a.1)
 
 -- a turn is a step and the local steps behind it
-pub turned : {Z : Type 0} (image : ImageValue) (n : ℕ) (harts more_harts all_harts : List Hart) (shareds more_shareds : List (Shared Z))
+pub turned : {Z : Type 0} (section : Option Section) (image : ImageValue) (n : ℕ) (harts more_harts all_harts : List Hart) (shareds more_shareds : List (Shared Z))
     (key next last : List ℕ) (c : Choice)
-    → IsKeyOf image n more_harts more_shareds next (place_stepped (place_of_key image n harts shareds key) c)
-    → IsKeyOf image n all_harts more_shareds last (place_settled (place_of_key image n more_harts more_shareds next) c.hart)
-    → IsKeyOf image n all_harts more_shareds last (place_after (place_of_key image n harts shareds key) c)
-turned image n harts more_harts all_harts shareds more_shareds key next last c stepped_is settled =
+    → IsKeyOf section image n more_harts more_shareds next (place_stepped (place_of_key section image n harts shareds key) c)
+    → IsKeyOf section image n all_harts more_shareds last (place_settled (place_of_key section image n more_harts more_shareds next) c.hart)
+    → IsKeyOf section image n all_harts more_shareds last (place_after (place_of_key section image n harts shareds key) c)
+turned section image n harts more_harts all_harts shareds more_shareds key next last c stepped_is settled =
     (settled.0, settled.1 ∙ ap (λ p. place_settled p c.hart) stepped_is.1)

@@ -1,6 +1,7 @@
 pub mod WorldLemmas
 pub mod KeyLemmas
 pub mod SettledKeys
+pub mod SettlingLemmas
 pub mod KeepLemmas
 pub mod MemoLemmas
 pub mod FirstLemmas
@@ -11,8 +12,8 @@ pub mod TurnLists
 pub mod PassLemmas
 pub mod BegunLemmas
 pub mod LagLemmas
-pub mod WordBreaks
 pub mod AheadLemmas
+pub mod WordBreaks
 pub mod StartLemmas
 pub mod BeginLemmas
 pub mod EveryLemmas

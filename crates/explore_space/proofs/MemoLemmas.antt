@@ -1,5 +1,5 @@
 -- Steps and rests stay where more parts are known, and one more is kept.
-use Rattle.std.proofs.Common.{◌≡◌, ℕ, suc, ◌+◌, ◌<◌, ◌≤◌, Bool, true, false, if◌then◌else◌, List, [], ◌∷◌, length, Some, refl, ap, sym, ◌∙◌, subst, arith, inl, inr, ◌⊎◌, None}
+use Rattle.std.proofs.Common.{◌≡◌, ℕ, suc, ◌+◌, ◌<◌, ◌≤◌, Bool, true, false, if◌then◌else◌, List, [], ◌∷◌, length, Some, refl, ap, sym, ◌∙◌, subst, arith, inl, inr, ◌⊎◌, Option}
 use Rattle.std.proofs.lemmas.Option.{slice_get_within}
 use Rattle.std.specs.List.{slice_get, slice_index}
 use Rattle.image.specs.Image.{ImageValue}
@@ -15,6 +15,7 @@ use Rattle.explore_space.specs.Memo.{AreRests, AreSteps, AreThere, HasAnswer, Ke
 use Rattle.explore_space.specs.Places.{cells_in, hart_in, hart_numbered, marks_in, PartsStep}
 use Rattle.explore_space.specs.declared.shared.Shared.{Shared}
 use Rattle.explore_space.proofs.KeyLemmas.{longer_get, longer_length, steps_moved}
+use Rattle.explore_laws.specs.declared.section.Section.{Section}
 
 -- ---- more parts are known
 module _ {Z : Type 0} (image : ImageValue) (harts more_harts : List Hart) (shareds more_shareds : List (Shared Z))
@@ -66,16 +67,16 @@ module _ {Z : Type 0} (image : ImageValue) (harts more_harts : List Hart) (share
         ));
   }
 
-pub rests_stay : (image : ImageValue) (harts more_harts : List Hart) → GoesOn harts more_harts → (keys answers : List (List ℕ))
-    → AreRests image harts keys answers → AreRests image more_harts keys answers
-rests_stay image harts more_harts harts_go keys answers are = record {
+pub rests_stay : (section : Option Section) (image : ImageValue) (harts more_harts : List Hart) → GoesOn harts more_harts → (keys answers : List (List ℕ))
+    → AreRests section image harts keys answers → AreRests section image more_harts keys answers
+rests_stay section image harts more_harts harts_go keys answers are = record {
   each = λ at id after kept.
       (let told = are.each at id after kept in
       let longer = longer_length harts more_harts harts_go in (
         (let h = told.0 in omega (arith, longer, h)),
         (let h = told.1 in omega (arith, longer, h)),
         ap hart_in (longer_get harts more_harts harts_go after told.1) ∙ told.2
-            ∙ ap (rested None (code_in (image_memory image)) at_once) (sym (ap hart_in (longer_get harts more_harts harts_go id told.0))),
+            ∙ ap (rested section (code_in (image_memory image)) at_once) (sym (ap hart_in (longer_get harts more_harts harts_go id told.0))),
       ));
 }
 
@@ -87,8 +88,8 @@ no_steps image harts shareds keys answers none = record {
       absurd (let there = slice_get_within keys at _ kept.0 in omega (arith, there, none));
 }
 
-pub no_rests : (image : ImageValue) (harts : List Hart) (keys answers : List (List ℕ)) → length keys ≡ 0 → AreRests image harts keys answers
-no_rests image harts keys answers none = record {
+pub no_rests : (section : Option Section) (image : ImageValue) (harts : List Hart) (keys answers : List (List ℕ)) → length keys ≡ 0 → AreRests section image harts keys answers
+no_rests section image harts keys answers none = record {
   each = λ at id after kept. absurd (let there = slice_get_within keys at _ kept.0 in omega (arith, there, none));
 }
 
@@ -136,12 +137,12 @@ steps_more image harts shareds keys answers more_keys more_answers hart shared n
     Goes h s x a b = AreThere harts shareds h s × AreThere harts shareds a b × PartsStep image x harts shareds h s harts shareds a b
 
 -- ---- one rest more
-pub rests_more : (image : ImageValue) (harts : List Hart) (keys answers more_keys more_answers : List (List ℕ)) (id new_hart : ℕ)
-    → AreRests image harts keys answers → KeepsOne keys answers more_keys more_answers (id ∷ []) (new_hart ∷ [])
+pub rests_more : (section : Option Section) (image : ImageValue) (harts : List Hart) (keys answers more_keys more_answers : List (List ℕ)) (id new_hart : ℕ)
+    → AreRests section image harts keys answers → KeepsOne keys answers more_keys more_answers (id ∷ []) (new_hart ∷ [])
     → id < length harts → new_hart < length harts
-    → hart_numbered harts new_hart ≡ rested None (code_in (image_memory image)) at_once (hart_numbered harts id)
-    → AreRests image harts more_keys more_answers
-rests_more image harts keys answers more_keys more_answers id new_hart are keeps there after rest = record {
+    → hart_numbered harts new_hart ≡ rested section (code_in (image_memory image)) at_once (hart_numbered harts id)
+    → AreRests section image harts more_keys more_answers
+rests_more section image harts keys answers more_keys more_answers id new_hart are keeps there after rest = record {
   each = λ at other after_other kept.
       elim (keeps.each at (other ∷ []) (after_other ∷ []) kept) [
         | inl old ↦ are.each at other after_other old
@@ -152,7 +153,7 @@ rests_more image harts keys answers more_keys more_answers id new_hart are keeps
   where
     Goes : ℕ → ℕ → Type 0
     Goes x y = (x < length harts) × (y < length harts)
-        × (hart_numbered harts y ≡ rested None (code_in (image_memory image)) at_once (hart_numbered harts x))
+        × (hart_numbered harts y ≡ rested section (code_in (image_memory image)) at_once (hart_numbered harts x))
 
 -- ---- answers of one and of two words
 one_word : (xs : List ℕ) → 1 ≤ length xs → length xs < 2 → xs ≡ slice_index xs 0 ∷ []
@@ -177,11 +178,11 @@ kept_step image harts shareds keys answers at hart shared bit c answer are bit_i
     (kept.0 ∙ ap (λ (b : ℕ). Some (hart ∷ shared ∷ c.hart ∷ b ∷ [])) bit_is, kept.1 ∙ ap Some (two_words answer some few)) in
     (told.1, told.2)
 
-pub kept_rest : (image : ImageValue) (harts : List Hart) (keys answers : List (List ℕ)) (at id : ℕ) (answer : List ℕ)
-    → AreRests image harts keys answers → HasAnswer keys answers at (id ∷ []) answer → 1 ≤ length answer → length answer < 2
+pub kept_rest : (section : Option Section) (image : ImageValue) (harts : List Hart) (keys answers : List (List ℕ)) (at id : ℕ) (answer : List ℕ)
+    → AreRests section image harts keys answers → HasAnswer keys answers at (id ∷ []) answer → 1 ≤ length answer → length answer < 2
     → (slice_index answer 0 < length harts)
-    × (hart_numbered harts (slice_index answer 0) ≡ rested None (code_in (image_memory image)) at_once (hart_numbered harts id))
-kept_rest image harts keys answers at id answer are kept some few =
+    × (hart_numbered harts (slice_index answer 0) ≡ rested section (code_in (image_memory image)) at_once (hart_numbered harts id))
+kept_rest section image harts keys answers at id answer are kept some few =
     let told = are.each at id (slice_index answer 0) (kept.0, kept.1 ∙ ap Some (one_word answer some few)) in
     (told.1, told.2)
 
@@ -201,12 +202,12 @@ step_kept image harts more_harts shareds more_shareds harts_go shareds_go keys a
     (there_stays image harts more_harts shareds more_shareds harts_go shareds_go hart shared there) after
     (step_begins image harts more_harts shareds more_shareds harts_go shareds_go c hart shared new_hart new_shared there steps)
 
-pub rest_kept : (image : ImageValue) (harts more_harts : List Hart) → GoesOn harts more_harts
-    → (keys answers more_keys more_answers : List (List ℕ)) (id new_hart : ℕ) → AreRests image harts keys answers
+pub rest_kept : (section : Option Section) (image : ImageValue) (harts more_harts : List Hart) → GoesOn harts more_harts
+    → (keys answers more_keys more_answers : List (List ℕ)) (id new_hart : ℕ) → AreRests section image harts keys answers
     → KeepsOne keys answers more_keys more_answers (id ∷ []) (new_hart ∷ []) → id < length harts → new_hart < length more_harts
-    → hart_numbered more_harts new_hart ≡ rested None (code_in (image_memory image)) at_once (hart_numbered harts id)
-    → AreRests image more_harts more_keys more_answers
-rest_kept image harts more_harts harts_go keys answers more_keys more_answers id new_hart are keeps there after rest =
-    rests_more image more_harts keys answers more_keys more_answers id new_hart (rests_stay image harts more_harts harts_go keys answers are)
+    → hart_numbered more_harts new_hart ≡ rested section (code_in (image_memory image)) at_once (hart_numbered harts id)
+    → AreRests section image more_harts more_keys more_answers
+rest_kept section image harts more_harts harts_go keys answers more_keys more_answers id new_hart are keeps there after rest =
+    rests_more section image more_harts keys answers more_keys more_answers id new_hart (rests_stay section image harts more_harts harts_go keys answers are)
     keeps (let e = longer_length harts more_harts harts_go in omega (arith, e, there)) after
-    (rest ∙ ap (rested None (code_in (image_memory image)) at_once) (sym (ap hart_in (longer_get harts more_harts harts_go id there))))
+    (rest ∙ ap (rested section (code_in (image_memory image)) at_once) (sym (ap hart_in (longer_get harts more_harts harts_go id there))))

@@ -23,10 +23,10 @@ use Rattle.explore_bounds.specs.Steps.{TellsBound}
 use Rattle.explore_bounds.specs.declared.bound.Bound.{Bound}
 use Rattle.explore_bounds.specs.declared.bound.Bound.TheVariants.{After, Never}
 use Rattle.explore_space.specs.Bounds.{later_by}
-use Rattle.explore_space.specs.Begun.{begun_choices, first_steps, hart_begun, runs_settled, settled_start, world_begun}
+use Rattle.explore_space.specs.Begun.{begun_choices, first_steps, hart_begun, runs_outside_there, runs_settled, settled_start, world_begun}
 use Rattle.explore_space.proofs.BegunLemmas.{all_begun, begun_count, begun_memory, begun_reserved, own_begun, run_of_begun}
 use Rattle.explore_space.proofs.LagLemmas.{Lagged, Lags, covers_joined, lagged}
-use Rattle.explore_space.proofs.AheadLemmas.{AllRun, begun_run}
+use Rattle.explore_space.proofs.AheadLemmas.{AllRun, begun_run, outside_runs}
 use Rattle.explore_laws.specs.declared.section.Section.{Section}
 use Rattle.explore_laws.proofs.OutsideLemmas.{outside_none}
 
@@ -44,7 +44,7 @@ module _ (section : Option Section) (w : World) (h : ℕ) (v u : HartValue) (the
 first_runs : (section : Option Section) (w : World) (h : ℕ) (u : HartValue) (b : Bool) → runs_settled section w h ≡ b
     → 0 < cond b (settling_steps section w (slice_get w.harts h)) 0
     → slice_get (cond b (world_settled section w h) w).harts h ≡ Some u → not_stopped u.state ≡ true
-first_runs section w h u true is some at = ap still_runs (sym at) ∙ is
+first_runs section w h u true is some at = outside_runs section u (ap (runs_outside_there section) (sym at) ∙ is)
 first_runs section w h u false is some at = absurd (omega (arith, some))
 
 start_lags : (section : Option Section) (w : World) → Lags section (first_steps section w) (settled_start section w) w

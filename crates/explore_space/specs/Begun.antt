@@ -1,19 +1,29 @@
 -- The start of turns: each hart has taken its first local steps.
-use Rattle.std.specs.Prelude.{ℕ, zero, suc, Bool, true, if◌then◌else◌, List, [], ◌++◌, length, slice_get, Option}
+use Rattle.std.specs.Prelude.{ℕ, zero, suc, Bool, true, false, not, ◌&&◌, if◌then◌else◌, List, [], ◌++◌, length, slice_get, Option, Some, None}
+use Rattle.hart_step.specs.Hart.{HartValue}
 use Rattle.hart_local.specs.LocalRuns.{plain_choices}
 use Rattle.machine.specs.Chosen.{is_chosen}
 use Rattle.machine.specs.World.{World}
 use Rattle.machine.specs.declared.choice.Choice.{Choice}
-use Rattle.explore_laws.specs.Bounds.{runs_in}
+use Rattle.explore_laws.specs.Bounds.{not_stopped}
 use Rattle.explore_laws.specs.Places.{Place}
-use Rattle.explore_laws.specs.Settling.{world_settled, settling_steps, turns_choices}
+use Rattle.explore_laws.specs.Settling.{rests_in, world_settled, settling_steps, turns_choices}
 use Rattle.explore_laws.specs.declared.section.Section.{Section}
 
--- whether hart h still runs behind its local steps; one that doesn't takes them in its first turn
-abbrev pub runs_settled : Option Section → World → ℕ → Bool
-runs_settled section w h = runs_in (world_settled section w h) h
+-- whether a hart runs and doesn't stand in a section
+abbrev pub runs_outside : Option Section → HartValue → Bool
+runs_outside section v = not_stopped v.state && not (rests_in section v)
 
--- hart h has taken its local steps if it still runs behind them
+abbrev pub runs_outside_there : Option Section → Option HartValue → Bool
+runs_outside_there section None = false
+runs_outside_there section (Some v) = runs_outside section v
+
+-- whether hart h still runs behind its local steps, and doesn't stand in the section there; one that
+-- stops or comes there takes them in its first turn
+abbrev pub runs_settled : Option Section → World → ℕ → Bool
+runs_settled section w h = runs_outside_there section (slice_get (world_settled section w h).harts h)
+
+-- hart h has taken its local steps if it still runs behind them, outside of the section
 abbrev pub hart_begun : Option Section → World → ℕ → World
 hart_begun section w h = if runs_settled section w h then world_settled section w h else w
 

@@ -1,5 +1,5 @@
 -- What every schedule of a program does.
-use Rattle.std.specs.Prelude.{◌≡◌, ◌≢◌, ℕ, zero, suc, ◌<◌, Bool, true, false, ◌||◌, List, [], ◌∷◌, ◌++◌, length, Option, None}
+use Rattle.std.specs.Prelude.{◌≡◌, ◌≢◌, ℕ, zero, suc, ◌<◌, Bool, true, false, ◌||◌, List, [], ◌∷◌, ◌++◌, length, Option}
 use Rattle.std.specs.List.{All, AllPairs, Contains}
 use Rattle.image.specs.Image.{ImageValue}
 use Rattle.machine.specs.Start.{started}
@@ -11,10 +11,11 @@ use Rattle.outcome.specs.Outcome.{some_run}
 use Rattle.outcome.specs.declared.expect.Exit.{Exit}
 use Rattle.outcome.specs.declared.expect.Exit.TheVariants.{May, Must}
 use Rattle.explore_laws.specs.Places.{place_begun}
+use Rattle.explore_laws.specs.declared.section.Section.{Section}
 use Rattle.explore_search.specs.Counted.{HasPlaces, HasMorePlaces}
 use Rattle.explore_space.specs.Begun.{choices_from_start, settled_start}
 use Rattle.explore_space.specs.Ends.{EndValue, end_with, ends_in}
-use Rattle.explore_space.specs.Failing.{breaks_word}
+use Rattle.explore_space.specs.Failing.{breaks_asked}
 use Rattle.explore_space.specs.declared.exploring.Answer.{Answer}
 use Rattle.explore_space.specs.declared.exploring.Answer.TheVariants.{Holds, Fails, Hangs, Undecided}
 use Rattle.explore_space.specs.declared.meant.ScRefusals.{ScRefusals}
@@ -37,45 +38,48 @@ abbrev pub IsListOf : List Choice → List Choice → Type 0
 IsListOf meant choices = All (Contains meant) choices
 
 -- whether the run of a list of choices from a program's start fails: behind it a word isn't what it
--- must be, or its rule is broken, or without a rule a hart has faulted
-abbrev pub run_fails : Option Kind → Option Always → ImageValue → List ℕ → List Choice → Bool
-run_fails rule always image inputs choices =
-    breaks_word always (run (started image inputs) choices)
+-- must be, or two harts stand in a section, or its rule is broken, or without a rule a hart has faulted
+abbrev pub run_fails : Option Kind → Option Always → Option Section → ImageValue → List ℕ → List Choice → Bool
+run_fails rule always section image inputs choices =
+    breaks_asked always section (run (started image inputs) choices)
     || fails May (judged rule inputs choices (run (started image inputs) choices).harts)
 
 -- a list of these choices fails: it is the choices of so many turns, and neither fewer turns nor
 -- fewer choices do
-pub record FailsFirst (meant : List Choice) (first : World) (is_failing : List Choice → Bool) (choices : List Choice) (count : ℕ) : Type 0 where
+pub record FailsFirst (section : Option Section) (meant : List Choice) (first : World) (is_failing : List Choice → Bool)
+    (choices : List Choice) (count : ℕ) : Type 0 where
   pub turns : List Choice
   pub meant_turns : IsListOf meant turns
   pub count_is : length turns ≡ count
-  pub choices_are : choices ≡ choices_from_start None first turns
+  pub choices_are : choices ≡ choices_from_start section first turns
   pub meant_ones : IsListOf meant choices
   pub fails : is_failing choices ≡ true
-  pub fewest : (other : List Choice) → IsListOf meant other → length other < count → is_failing (choices_from_start None first other) ≡ false
+  pub fewest : (other : List Choice) → IsListOf meant other → length other < count → is_failing (choices_from_start section first other) ≡ false
   pub shortest : (other : List Choice) → IsListOf meant other → length other < count → is_failing other ≡ false
 
 -- an answer holds of every schedule: no list of the harts' choices fails, or this one does; where
 -- it is undecided, nothing is said, and where one hangs, none fails
-abbrev pub HoldsOfEvery : {Z : Type 0} → Option Kind → Option Always → ScRefusals → ImageValue → List ℕ → Answer Z → Type 0
-HoldsOfEvery rule always refusals image inputs (Holds held) =
-    (choices : List Choice) → IsListOf (meant_choices refusals (length inputs)) choices → run_fails rule always image inputs choices ≡ false
-HoldsOfEvery rule always refusals image inputs (Fails failing) =
-    FailsFirst (meant_choices refusals (length inputs)) (started image inputs) (run_fails rule always image inputs)
+abbrev pub HoldsOfEvery : {Z : Type 0} → Option Kind → Option Always → Option Section → ScRefusals → ImageValue → List ℕ → Answer Z → Type 0
+HoldsOfEvery rule always section refusals image inputs (Holds held) =
+    (choices : List Choice) → IsListOf (meant_choices refusals (length inputs)) choices
+    → run_fails rule always section image inputs choices ≡ false
+HoldsOfEvery rule always section refusals image inputs (Fails failing) =
+    FailsFirst section (meant_choices refusals (length inputs)) (started image inputs) (run_fails rule always section image inputs)
     failing.choices.items failing.turns
-HoldsOfEvery rule always refusals image inputs (Hangs hanging) =
-    (choices : List Choice) → IsListOf (meant_choices refusals (length inputs)) choices → run_fails rule always image inputs choices ≡ false
-HoldsOfEvery rule always refusals image inputs Undecided = Unit {0}
+HoldsOfEvery rule always section refusals image inputs (Hangs hanging) =
+    (choices : List Choice) → IsListOf (meant_choices refusals (length inputs)) choices
+    → run_fails rule always section image inputs choices ≡ false
+HoldsOfEvery rule always section refusals image inputs Undecided = Unit {0}
 
 -- an answer counts places: turns lead to so many where nothing fails, and to more than `most` where
 -- it is undecided
-abbrev pub CountsPlaces : {Z : Type 0} → ScRefusals → ImageValue → List ℕ → ℕ → Answer Z → Type 0
-CountsPlaces refusals image inputs most (Holds held) =
-    HasPlaces (meant_choices refusals (length inputs)) (place_begun None (settled_start None (started image inputs))) held.places
-CountsPlaces refusals image inputs most (Fails failing) = Unit {0}
-CountsPlaces refusals image inputs most (Hangs hanging) = Unit {0}
-CountsPlaces refusals image inputs most Undecided =
-    HasMorePlaces (meant_choices refusals (length inputs)) (place_begun None (settled_start None (started image inputs))) most
+abbrev pub CountsPlaces : {Z : Type 0} → Option Section → ScRefusals → ImageValue → List ℕ → ℕ → Answer Z → Type 0
+CountsPlaces section refusals image inputs most (Holds held) =
+    HasPlaces (meant_choices refusals (length inputs)) (place_begun section (settled_start section (started image inputs))) held.places
+CountsPlaces section refusals image inputs most (Fails failing) = Unit {0}
+CountsPlaces section refusals image inputs most (Hangs hanging) = Unit {0}
+CountsPlaces section refusals image inputs most Undecided =
+    HasMorePlaces (meant_choices refusals (length inputs)) (place_begun section (settled_start section (started image inputs))) most
 
 -- no hart runs after a list of choices from a program's start
 abbrev pub StopsAll : ImageValue → List ℕ → List Choice → Type 0
@@ -116,31 +120,31 @@ pub record HasExit (meant : List Choice) (w : World) : Type 0 where
 
 -- a list of these choices leads to a world that has no way out; it is the choices of so many turns,
 -- and the worlds of fewer turns, and those of fewer choices, have one
-pub record HangsFirst (meant : List Choice) (first : World) (choices : List Choice) (count : ℕ)
+pub record HangsFirst (section : Option Section) (meant : List Choice) (first : World) (choices : List Choice) (count : ℕ)
     : Type 0 where
   pub turns : List Choice
   pub meant_turns : IsListOf meant turns
   pub count_is : length turns ≡ count
-  pub choices_are : choices ≡ choices_from_start None first turns
+  pub choices_are : choices ≡ choices_from_start section first turns
   pub meant_ones : IsListOf meant choices
   pub hangs : HasExit meant (run first choices) → ⊥
   pub fewest : (other : List Choice) → IsListOf meant other → length other < count
-      → HasExit meant (run first (choices_from_start None first other))
+      → HasExit meant (run first (choices_from_start section first other))
   pub shortest : (other : List Choice) → IsListOf meant other → length other < count
       → HasExit meant (run first other)
 
 -- an answer tells of ways out where they are asked for: each world that a list of the harts'
 -- choices leads to has one, or this list leads to one that has none
-abbrev pub TellsExits : {Z : Type 0} → Exit → ScRefusals → ImageValue → List ℕ → Answer Z → Type 0
-TellsExits May refusals image inputs (Holds held) = Unit {0}
-TellsExits May refusals image inputs (Fails failing) = Unit {0}
-TellsExits May refusals image inputs (Hangs hanging) = ⊥
-TellsExits May refusals image inputs Undecided = Unit {0}
-TellsExits Must refusals image inputs (Holds held) =
+abbrev pub TellsExits : {Z : Type 0} → Option Section → Exit → ScRefusals → ImageValue → List ℕ → Answer Z → Type 0
+TellsExits section May refusals image inputs (Holds held) = Unit {0}
+TellsExits section May refusals image inputs (Fails failing) = Unit {0}
+TellsExits section May refusals image inputs (Hangs hanging) = ⊥
+TellsExits section May refusals image inputs Undecided = Unit {0}
+TellsExits section Must refusals image inputs (Holds held) =
     (choices : List Choice) → IsListOf (meant_choices refusals (length inputs)) choices
     → HasExit (meant_choices refusals (length inputs)) (run (started image inputs) choices)
-TellsExits Must refusals image inputs (Fails failing) = Unit {0}
-TellsExits Must refusals image inputs (Hangs hanging) =
-    HangsFirst (meant_choices refusals (length inputs)) (started image inputs)
+TellsExits section Must refusals image inputs (Fails failing) = Unit {0}
+TellsExits section Must refusals image inputs (Hangs hanging) =
+    HangsFirst section (meant_choices refusals (length inputs)) (started image inputs)
     hanging.choices.items hanging.turns
-TellsExits Must refusals image inputs Undecided = Unit {0}
+TellsExits section Must refusals image inputs Undecided = Unit {0}

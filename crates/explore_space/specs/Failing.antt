@@ -9,6 +9,7 @@ use Rattle.outcome.specs.declared.expect.Exit.TheVariants.{May}
 use Rattle.property_judge.specs.Broken.{fails_in}
 use Rattle.property_judge.specs.declared.property.Property.TheVariants as property
 use Rattle.explore_laws.specs.Places.{Place}
+use Rattle.explore_laws.specs.declared.section.Section.{Section}
 use Rattle.explore_space.specs.declared.question.Always.{Always}
 
 -- a plain choice of each hart below n that was chosen; a verdict asks no more of a run's choices
@@ -22,11 +23,20 @@ abbrev pub breaks_word : Option Always → World → Bool
 breaks_word None w = false
 breaks_word (Some always) w = fails_in (property.Always always.word always.comparison always.number) w
 
--- whether the run to a place has failed: a word isn't what it must be, or its rule is broken, or
--- without a rule a hart has faulted
-abbrev pub fails_there : Option Kind → Option Always → List ℕ → Place → Bool
-fails_there rule always inputs p =
-    breaks_word always p.world || fails May (judged rule inputs (one_each (length inputs) p.chosen) p.world.harts)
+-- whether two harts, or more, stand in a section at once in a world, if that is asked
+abbrev pub breaks_section : Option Section → World → Bool
+breaks_section None w = false
+breaks_section (Some section) w = fails_in (property.NeverBoth section.from section.to) w
+
+-- whether one of these is so
+abbrev pub breaks_asked : Option Always → Option Section → World → Bool
+breaks_asked always section w = breaks_word always w || breaks_section section w
+
+-- whether the run to a place has failed: a word isn't what it must be, or two harts stand in the
+-- section, or its rule is broken, or without a rule a hart has faulted
+abbrev pub fails_there : Option Kind → Option Always → Option Section → List ℕ → Place → Bool
+fails_there rule always section inputs p =
+    breaks_asked always section p.world || fails May (judged rule inputs (one_each (length inputs) p.chosen) p.world.harts)
 
 -- whether no hart runs in a place
 abbrev pub ends_there : Place → Bool

@@ -1,11 +1,12 @@
 -- Answers that are kept under keys, and what is kept of steps and of rests, by the numbers of parts.
-use Rattle.std.specs.Prelude.{◌≡◌, ℕ, ◌<◌, ◌⊎◌, if◌then◌else◌, List, [], ◌∷◌, Some, length, slice_get, None}
+use Rattle.std.specs.Prelude.{◌≡◌, ℕ, ◌<◌, ◌⊎◌, if◌then◌else◌, List, [], ◌∷◌, Some, length, slice_get, Option}
 use Rattle.image.specs.Image.{ImageValue}
 use Rattle.mem_store.specs.Image.{image_memory}
 use Rattle.hart_step.specs.declared.hart.Hart.{Hart}
 use Rattle.hart_local.specs.CodeMemory.{code_in}
 use Rattle.machine.specs.declared.choice.Choice.{Choice}
 use Rattle.explore_laws.specs.Settling.{at_once, rested}
+use Rattle.explore_laws.specs.declared.section.Section.{Section}
 use Rattle.explore_space.specs.Places.{hart_numbered, PartsStep}
 use Rattle.explore_space.specs.declared.shared.Shared.{Shared}
 
@@ -35,7 +36,7 @@ pub record AreSteps {Z : Type 0} (image : ImageValue) (harts : List Hart) (share
       × PartsStep image c harts shareds hart shared harts shareds new_hart new_shared
 
 -- what is kept of rests is so: under a hart's number that of what its local steps make of it
-pub record AreRests (image : ImageValue) (harts : List Hart) (keys answers : List (List ℕ)) : Type 0 where
+pub record AreRests (section : Option Section) (image : ImageValue) (harts : List Hart) (keys answers : List (List ℕ)) : Type 0 where
   pub each : (at id after : ℕ) → HasAnswer keys answers at (id ∷ []) (after ∷ [])
       → (id < length harts) × (after < length harts)
-      × (hart_numbered harts after ≡ rested None (code_in (image_memory image)) at_once (hart_numbered harts id))
+      × (hart_numbered harts after ≡ rested section (code_in (image_memory image)) at_once (hart_numbered harts id))

@@ -1,42 +1,47 @@
 //! The key of the place in which turns start, and the steps that harts have taken there.
-ghost use Rattle.std.specs.Prelude.{◌≡◌, ◌<◌, ℕ, Some, IfOk, length, slice_get, slice_index, None};
+ghost use Rattle.std.specs.Prelude.{◌≡◌, ◌<◌, ℕ, Some, IfOk, length, slice_get, slice_index};
 ghost use Rattle.mem_store.specs.Image.{image_memory, segments_memory};
 ghost use Rattle.hart_local.specs.CodeMemory.{code_in};
 ghost use Rattle.machine.specs.Start.{started};
 ghost use Rattle.machine.specs.World.{World};
 ghost use Rattle.hart_step.specs.Hart.{hart_of};
-ghost use Rattle.explore_laws.specs.Bounds.{not_stopped};
 ghost use Rattle.explore_laws.specs.Places.{place_begun};
-ghost use Rattle.explore_space.specs.Begun.{first_steps, place_hart_begun, settled_start};
+ghost use Rattle.explore_space.specs.Begun.{first_steps, runs_outside, place_hart_begun, settled_start};
 ghost use Rattle.explore_space.specs.Memo.{AreRests};
 ghost use Rattle.explore_space.specs.Places.{IsKey, IsKeyOf, hart_numbered, place_of_key};
 
 use crate::first::first_harts;
 use crate::kept::Kept;
 use crate::memo::Memo;
-use crate::settling::{is_running, settle};
+use crate::settling::{LocalCode, runs_outside, settle};
 use crate::shared::Shared;
 use crate::stepping::settled_key;
-use hart_local::Code;
+use explore_laws::Section;
 use hart_step::Hart;
 use image::Image;
 use machine::Inputs;
 use std::alloc::{AllocError, Allocator};
 
-// Whether a hart of a key runs.
-fn runs_at<A: Allocator>(harts: &Kept<Hart, A>, key: &[u32], number: usize) -> bool
+// Whether a hart of a key runs and doesn't stand in a section.
+fn runs_outside_at<A: Allocator>(
+    harts: &Kept<Hart, A>,
+    key: &[u32],
+    number: usize,
+    section: Option<Section>,
+) -> bool
     requires there { number < length key.now }
     requires known { slice_index key.now number < length harts.now.parts.items }
-    ensures { result ≡ not_stopped (hart_numbered harts.now.parts.items (slice_index key.now number)).state }
+    ensures { result ≡ runs_outside section (hart_numbered harts.now.parts.items (slice_index key.now number)) }
 {
-    is_running(&harts.parts[key[number] as usize])
+    runs_outside(&harts.parts[key[number] as usize], section)
 }
 
-// The key of the place where a hart has taken its local steps, if it still runs behind them.
+// The key of the place where a hart has taken its local steps, if it still runs behind them, outside
+// of the section.
 fn begin_hart<A: Allocator + Copy>(
     alloc: A,
     image: &Image<A>,
-    code: &Code<A>,
+    code: &LocalCode<A>,
     count: usize,
     harts: &mut Kept<Hart, A>,
     shareds: &[Shared<A>],
@@ -44,40 +49,41 @@ fn begin_hart<A: Allocator + Copy>(
     key: Vec<u32, A>,
     number: usize,
 ) -> Result<Vec<u32, A>, AllocError>
-    requires its_code { segments_memory code.now ≡ code_in (image_memory image.now) }
+    requires its_code { segments_memory code.now.code ≡ code_in (image_memory image.now) }
     requires there { number < count }
     requires is { IsKey image.now count harts.old.parts.items shareds.now key.items }
-    requires kept { AreRests image.now harts.old.parts.items rests.old.keys rests.old.answers }
-    ensures key { IfOk result (λ next. IsKeyOf image.now count harts.new.parts.items shareds.now next.items
-        (place_hart_begun (place_of_key image.now count harts.old.parts.items shareds.now key.items) number)) }
-    ensures known { AreRests image.now harts.new.parts.items rests.new.keys rests.new.answers }
+    requires kept { AreRests code.now.section image.now harts.old.parts.items rests.old.keys rests.old.answers }
+    ensures key { IfOk result (λ next. IsKeyOf code.now.section image.now count harts.new.parts.items shareds.now next.items
+        (place_hart_begun (place_of_key code.now.section image.now count harts.old.parts.items shareds.now key.items) number)) }
+    ensures known { AreRests code.now.section image.now harts.new.parts.items rests.new.keys rests.new.answers }
 {
     let before = Vec::from_slice(alloc, &key)?;
     let next = settled_key(image, code, count, harts, shareds, rests, key, number)?;
-    if runs_at(harts, &next, number) {
+    if runs_outside_at(harts, &next, number, code.section) {
         return Ok(next);
     }
     Ok(before)
 }
 
-/// The key of the place where each hart has taken its local steps, if it still runs behind them.
+/// The key of the place where each hart has taken its local steps, if it still runs behind them,
+/// outside of the section.
 pub fn begun_key<A: Allocator + Copy>(
     alloc: A,
     image: &Image<A>,
-    code: &Code<A>,
+    code: &LocalCode<A>,
     inputs: &Inputs,
     harts: &mut Kept<Hart, A>,
     shareds: &[Shared<A>],
     rests: &mut Memo<A>,
     key: Vec<u32, A>,
 ) -> Result<Vec<u32, A>, AllocError>
-    requires its_code { segments_memory code.now ≡ code_in (image_memory image.now) }
-    requires is { IsKeyOf image.now (length inputs.now) harts.old.parts.items shareds.now key.items
-        (place_begun None (started image.now inputs.now)) }
-    requires kept { AreRests image.now harts.old.parts.items rests.old.keys rests.old.answers }
-    ensures key { IfOk result (λ next. IsKeyOf image.now (length inputs.now) harts.new.parts.items shareds.now next.items
-        (place_begun None (settled_start None (started image.now inputs.now)))) }
-    ensures known { AreRests image.now harts.new.parts.items rests.new.keys rests.new.answers }
+    requires its_code { segments_memory code.now.code ≡ code_in (image_memory image.now) }
+    requires is { IsKeyOf code.now.section image.now (length inputs.now) harts.old.parts.items shareds.now key.items
+        (place_begun code.now.section (started image.now inputs.now)) }
+    requires kept { AreRests code.now.section image.now harts.old.parts.items rests.old.keys rests.old.answers }
+    ensures key { IfOk result (λ next. IsKeyOf code.now.section image.now (length inputs.now) harts.new.parts.items shareds.now next.items
+        (place_begun code.now.section (settled_start code.now.section (started image.now inputs.now)))) }
+    ensures known { AreRests code.now.section image.now harts.new.parts.items rests.new.keys rests.new.answers }
 {
     let count = inputs.harts() as usize;
     let mut key = key;
@@ -90,13 +96,17 @@ pub fn begun_key<A: Allocator + Copy>(
 }
 
 // How many local steps a hart takes first.
-fn steps_of_hart<A: Allocator>(hart: &Hart, code: &Code<A>) -> u32
+fn steps_of_hart<A: Allocator>(hart: &Hart, code: &LocalCode<A>) -> u32
     ensures { (w : World) (h : ℕ) → slice_get w.harts h ≡ Some (hart_of hart.now)
-        → segments_memory code.now ≡ code_in w.memory → result ≡ first_steps None w h }
+        → segments_memory code.now.code ≡ code_in w.memory → result ≡ first_steps code.now.section w h }
 {
     let mut hart = *hart;
     let steps = settle(&mut hart, code);
-    if is_running(&hart) { steps } else { 0 }
+    if runs_outside(&hart, code.section) {
+        steps
+    } else {
+        0
+    }
 }
 
 /// How many local steps each hart has taken where turns start. Fails when out of memory.
@@ -104,12 +114,13 @@ pub fn begun_steps<A: Allocator + Copy>(
     alloc: A,
     image: &Image<A>,
     inputs: &Inputs,
+    section: Option<Section>,
 ) -> Result<Vec<u32, A>, AllocError>
     ensures count { IfOk result (λ steps. length steps.items ≡ length inputs.now) }
     ensures are { IfOk result (λ steps. (h n : ℕ) → slice_get steps.items h ≡ Some n
-        → n ≡ first_steps None (started image.now inputs.now) h) }
+        → n ≡ first_steps section (started image.now inputs.now) h) }
 {
-    let code = Code::new(alloc, image)?;
+    let code = LocalCode::new(alloc, image, section)?;
     let harts = first_harts(alloc, image, inputs)?;
     let mut steps = Vec::new(alloc);
     'harts: for hart in &harts {

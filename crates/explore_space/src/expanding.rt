@@ -1,5 +1,5 @@
 //! The choices of turns.
-ghost use Rattle.std.specs.Prelude.{◌≡◌, ◌++◌, ◌<◌, [], if◌then◌else◌, IfOk, OnOk, length, None};
+ghost use Rattle.std.specs.Prelude.{◌≡◌, ◌++◌, ◌<◌, [], if◌then◌else◌, IfOk, OnOk, length};
 ghost use Rattle.mem_store.specs.Image.{segments_memory};
 ghost use Rattle.hart_local.specs.CodeMemory.{code_in};
 ghost use Rattle.hart_local.specs.LocalRuns.{plain_choices};
@@ -10,8 +10,8 @@ ghost use Rattle.machine.specs.Start.{started};
 ghost use Rattle.machine.specs.State.{state};
 ghost use Rattle.machine.specs.World.{run};
 
-use crate::settling::{is_running, settle};
-use hart_local::Code;
+use crate::settling::{LocalCode, runs_outside, settle};
+use explore_laws::Section;
 use image::Image;
 use machine::{Choice, Inputs, Machine};
 use mem_flat::FlatStore;
@@ -20,13 +20,13 @@ use std::alloc::{AllocError, Allocator};
 // Takes a turn, and appends its choices.
 fn take_turn<A: Allocator, C: Allocator>(
     machine: &mut Machine<FlatStore<A>, A>,
-    code: &Code<C>,
+    code: &LocalCode<C>,
     turn: Choice,
     choices: &mut Vec<Choice, A>,
 ) -> Result<(), AllocError>
-    requires { segments_memory code.now ≡ code_in (state machine.old).memory }
-    ensures world { OnOk result (state machine.new ≡ run (state machine.old) (turn_choices None (state machine.old) turn)) }
-    ensures choices { OnOk result (choices.new.items ≡ choices.old.items ++ turn_choices None (state machine.old) turn) }
+    requires { segments_memory code.now.code ≡ code_in (state machine.old).memory }
+    ensures world { OnOk result (state machine.new ≡ run (state machine.old) (turn_choices code.now.section (state machine.old) turn)) }
+    ensures choices { OnOk result (choices.new.items ≡ choices.old.items ++ turn_choices code.now.section (state machine.old) turn) }
 {
     choices.push(turn)?;
     let number = turn.hart as usize;
@@ -46,22 +46,23 @@ fn take_turn<A: Allocator, C: Allocator>(
     Ok(())
 }
 
-// Takes a hart's local steps, if it still runs behind them, and appends their choices.
+// Takes a hart's local steps, if it still runs behind them, outside of the section, and appends
+// their choices.
 fn take_first<A: Allocator, C: Allocator>(
     machine: &mut Machine<FlatStore<A>, A>,
-    code: &Code<C>,
+    code: &LocalCode<C>,
     number: u32,
     choices: &mut Vec<Choice, A>,
 ) -> Result<(), AllocError>
-    requires code { segments_memory code.now ≡ code_in (state machine.old).memory }
+    requires code { segments_memory code.now.code ≡ code_in (state machine.old).memory }
     requires there { number < length (state machine.old).harts }
-    ensures world { OnOk result (state machine.new ≡ hart_begun None (state machine.old) number) }
+    ensures world { OnOk result (state machine.new ≡ hart_begun code.now.section (state machine.old) number) }
     ensures choices { OnOk result (choices.new.items ≡ choices.old.items
-        ++ plain_choices number (first_steps None (state machine.old) number)) }
+        ++ plain_choices number (first_steps code.now.section (state machine.old) number)) }
 {
     let mut hart = *machine.hart(number as usize);
     let count = settle(&mut hart, code);
-    if !is_running(&hart) {
+    if !runs_outside(&hart, code.section) {
         return Ok(());
     }
     machine.put_hart(number as usize, hart);
@@ -84,17 +85,17 @@ fn choose(turns: &[Choice], hart: u32) -> bool
 // Takes a hart's local steps so, if turns choose it.
 fn take_if_chosen<A: Allocator, C: Allocator>(
     machine: &mut Machine<FlatStore<A>, A>,
-    code: &Code<C>,
+    code: &LocalCode<C>,
     number: u32,
     turns: &[Choice],
     choices: &mut Vec<Choice, A>,
 ) -> Result<(), AllocError>
-    requires code { segments_memory code.now ≡ code_in (state machine.old).memory }
+    requires code { segments_memory code.now.code ≡ code_in (state machine.old).memory }
     requires there { number < length (state machine.old).harts }
     ensures world { OnOk result (state machine.new ≡ (if is_chosen turns.now number
-        then hart_begun None (state machine.old) number else state machine.old)) }
+        then hart_begun code.now.section (state machine.old) number else state machine.old)) }
     ensures choices { OnOk result (choices.new.items ≡ choices.old.items ++ (if is_chosen turns.now number
-        then plain_choices number (first_steps None (state machine.old) number) else [])) }
+        then plain_choices number (first_steps code.now.section (state machine.old) number) else [])) }
 {
     if !choose(turns, number) {
         return Ok(());
@@ -105,16 +106,16 @@ fn take_if_chosen<A: Allocator, C: Allocator>(
 // Takes the local steps of the harts that turns choose.
 fn take_all_first<A: Allocator, C: Allocator>(
     machine: &mut Machine<FlatStore<A>, A>,
-    code: &Code<C>,
+    code: &LocalCode<C>,
     count: u32,
     turns: &[Choice],
     choices: &mut Vec<Choice, A>,
 ) -> Result<(), AllocError>
-    requires code { segments_memory code.now ≡ code_in (state machine.old).memory }
+    requires code { segments_memory code.now.code ≡ code_in (state machine.old).memory }
     requires there { length (state machine.old).harts ≡ count }
-    ensures world { OnOk result (state machine.new ≡ world_begun None (state machine.old) (is_chosen turns.now) count) }
+    ensures world { OnOk result (state machine.new ≡ world_begun code.now.section (state machine.old) (is_chosen turns.now) count) }
     ensures choices { OnOk result (choices.new.items ≡ choices.old.items
-        ++ begun_choices None (state machine.old) (is_chosen turns.now) count) }
+        ++ begun_choices code.now.section (state machine.old) (is_chosen turns.now) count) }
 {
     'harts: for number in 0..count {
         take_if_chosen(machine, code, number, turns, choices)?;
@@ -128,11 +129,12 @@ pub fn choices_of_turns<A: Allocator + Copy>(
     alloc: A,
     image: &Image<A>,
     inputs: &Inputs,
+    section: Option<Section>,
     turns: &[Choice],
 ) -> Result<Vec<Choice, A>, AllocError>
-    ensures { IfOk result (λ choices. choices.items ≡ choices_from_start None (started image.now inputs.now) turns.now) }
+    ensures { IfOk result (λ choices. choices.items ≡ choices_from_start section (started image.now inputs.now) turns.now) }
 {
-    let code = Code::new(alloc, image)?;
+    let code = LocalCode::new(alloc, image, section)?;
     let mut machine: Machine<FlatStore<A>, A> = Machine::start(alloc, image, inputs)?;
     let mut choices = Vec::new(alloc);
     take_all_first(&mut machine, &code, inputs.harts(), turns, &mut choices)?;

@@ -1,8 +1,6 @@
 //! The worlds of a program.
-ghost use Rattle.std.specs.Prelude.{◌≡◌, ◌+◌, ◌==◌, ℕ, Bool, List, IfOk, length, map, slice_index, take, None};
+ghost use Rattle.std.specs.Prelude.{◌≡◌, ◌+◌, ◌==◌, ℕ, Bool, List, IfOk, length, map, slice_index, take};
 ghost use Rattle.image.specs.Image.{ImageValue};
-ghost use Rattle.mem_store.specs.Image.{image_memory, segments_memory};
-ghost use Rattle.hart_local.specs.CodeMemory.{code_in};
 ghost use Rattle.machine.specs.Start.{started};
 ghost use Rattle.explore_laws.specs.OwnSteps.{steps_in_turn};
 ghost use Rattle.explore_laws.specs.Places.{Place, place_begun};
@@ -10,14 +8,14 @@ ghost use Rattle.outcome.specs.Expect.{fails, judged};
 ghost use Rattle.outcome.specs.declared.expect.Exit.TheVariants.{May};
 ghost use Rattle.explore_space.specs.Begun.{settled_start};
 ghost use Rattle.explore_space.specs.Places.{IsKey, hart_numbered, place_of_key, world_of_key};
-ghost use Rattle.explore_space.specs.Failing.{breaks_word, ends_there, fails_there, one_each};
+ghost use Rattle.explore_space.specs.Failing.{breaks_section, breaks_word, ends_there, fails_there, one_each};
 
-use crate::failing::{breaks_word, fails_at, has_ended_at};
+use crate::failing::{breaks_word, fails_at, harts_within, has_ended_at};
 use crate::known::Known;
 use crate::question::Always;
 use crate::stepping::steps_from;
+use explore_laws::Section;
 use explore_search::Space;
-use hart_local::Code;
 use hart_step::Hart;
 use image::Image;
 use machine::{Choice, Inputs};
@@ -29,33 +27,32 @@ use std::alloc::{AllocError, Allocator};
 pub struct Explorer<'a, A: Allocator> {
     alloc: A,
     known: Known<'a, A>,
-    code: Code<A>,
     inputs: &'a Inputs,
     rule: Option<Kind>,
     always: Option<Always>,
-    ghost its_code: { segments_memory code ≡ code_in (image_memory known.image.now) },
 }
 
 impl<'a, A: Allocator + Copy> Explorer<'a, A> {
-    /// Nothing is known yet. Fails when out of memory.
+    /// Nothing is known yet. The section is the one in which no two harts may stand. Fails when out
+    /// of memory.
     pub fn new(
         alloc: A,
         image: &'a Image<A>,
         inputs: &'a Inputs,
         rule: Option<Kind>,
         always: Option<Always>,
+        never_both: Option<Section>,
     ) -> Result<Explorer<'a, A>, AllocError>
         ensures image { IfOk result (λ e. e.known.image.now ≡ image.now) }
         ensures inputs { IfOk result (λ e. e.inputs.now ≡ inputs.now) }
         ensures rule { IfOk result (λ e. e.rule ≡ rule) }
         ensures always { IfOk result (λ e. e.always ≡ always) }
+        ensures section { IfOk result (λ e. e.known.code.section ≡ never_both) }
     {
-        let code = Code::new(alloc, image)?;
-        let known = Known::new(alloc, image)?;
+        let known = Known::new(alloc, image, never_both)?;
         Ok(Explorer {
             alloc,
             known,
-            code,
             inputs,
             rule,
             always,
@@ -69,11 +66,18 @@ impl<'a, A: Allocator + Copy> Explorer<'a, A> {
         &self.known.harts.parts
     }
 
+    /// The section in which no two harts may stand, if that is asked.
+    pub fn section(&self) -> Option<Section>
+        ensures { result ≡ self.now.known.code.section }
+    {
+        self.known.code.section
+    }
+
     /// How many steps a turn's hart takes in it from a key's place. The only error is out of memory.
     pub fn steps_in(&self, key: &[u32], turn: Choice) -> Result<u32, AllocError>
         requires { IsKey self.now.known.image.now (length self.now.inputs.now) self.now.known.harts.parts.items
             self.now.known.shareds.parts.items key.now }
-        ensures { IfOk result (λ steps. steps ≡ steps_in_turn None (world_of_key self.now.known.image.now (length self.now.inputs.now)
+        ensures { IfOk result (λ steps. steps ≡ steps_in_turn self.now.known.code.section (world_of_key self.now.known.image.now (length self.now.inputs.now)
             self.now.known.harts.parts.items self.now.known.shareds.parts.items key.now) turn.hart turn) }
     {
         let count = self.inputs.harts() as usize;
@@ -83,7 +87,14 @@ impl<'a, A: Allocator + Copy> Explorer<'a, A> {
         }
         let hart = &self.known.harts.parts[key[number] as usize];
         let shared = &self.known.shareds.parts[key[count] as usize];
-        steps_from(self.alloc, self.known.image, &self.code, hart, shared, turn)
+        steps_from(
+            self.alloc,
+            self.known.image,
+            &self.known.code,
+            hart,
+            shared,
+            turn,
+        )
     }
 
     // Whether a word isn't what it must be in a key's place.
@@ -99,6 +110,21 @@ impl<'a, A: Allocator + Copy> Explorer<'a, A> {
         let count = self.inputs.harts() as usize;
         let shared = &self.known.shareds.parts[key[count] as usize];
         breaks_word(self.known.image, &shared.cells, always)
+    }
+
+    // Whether two harts stand in the section in a key's place.
+    fn breaks_section_at(&self, key: &[u32]) -> Result<bool, AllocError>
+        requires { IsKey self.now.known.image.now (length self.now.inputs.now) self.now.known.harts.parts.items
+            self.now.known.shareds.parts.items key.now }
+        ensures { IfOk result (λ answer. answer ≡ breaks_section self.now.known.code.section (world_of_key self.now.known.image.now
+            (length self.now.inputs.now) self.now.known.harts.parts.items self.now.known.shareds.parts.items key.now)) }
+    {
+        let Some(section) = self.known.code.section else {
+            return Ok(false);
+        };
+        let count = self.inputs.harts() as usize;
+        let within = harts_within(self.alloc, &self.known.harts.parts, count, key, section)?;
+        Ok(!(within < 2))
     }
 
     // Whether the rule is broken in a key's place, or without a rule a hart has faulted.
@@ -122,26 +148,25 @@ impl<'a, A: Allocator + Copy> Explorer<'a, A> {
 impl<'a, A: Allocator + Copy> Space<A> for Explorer<'a, A> {
     ghost is_key = { λ e key. IsKey e.known.image.now (length e.inputs.now) e.known.harts.parts.items e.known.shareds.parts.items key };
 
-    ghost place = { λ e key. place_of_key e.known.image.now (length e.inputs.now) e.known.harts.parts.items e.known.shareds.parts.items key };
+    ghost place = { λ e key. place_of_key e.known.code.section e.known.image.now (length e.inputs.now) e.known.harts.parts.items e.known.shareds.parts.items key };
 
-    ghost first = { λ e. place_begun None (settled_start None (started e.known.image.now e.inputs.now)) };
+    ghost first = { λ e. place_begun e.known.code.section (settled_start e.known.code.section (started e.known.image.now e.inputs.now)) };
 
-    ghost bad = { λ e p. fails_there e.rule e.always e.inputs.now p };
+    ghost bad = { λ e p. fails_there e.rule e.always e.known.code.section e.inputs.now p };
 
     ghost ended = { λ e p. ends_there p };
 
     fn first_key(&mut self) -> Result<Vec<u32, A>, AllocError> {
-        self.known.begin(self.alloc, &self.code, self.inputs)
+        self.known.begin(self.alloc, self.inputs)
     }
 
     fn key_after(&mut self, key: &[u32], choice: Choice) -> Result<Vec<u32, A>, AllocError> {
         let count = self.inputs.harts() as usize;
-        self.known
-            .key_after(self.alloc, &self.code, count, key, choice)
+        self.known.key_after(self.alloc, count, key, choice)
     }
 
     fn is_bad(&self, key: &[u32]) -> Result<bool, AllocError> {
-        if self.breaks_word_at(key) {
+        if self.breaks_word_at(key) || self.breaks_section_at(key)? {
             return Ok(true);
         }
         self.fails_by_rule_at(key)

@@ -1,5 +1,5 @@
 //! Every schedule of a program.
-ghost use Rattle.std.specs.Prelude.{◌≡◌, IfOk, length, None};
+ghost use Rattle.std.specs.Prelude.{◌≡◌, IfOk, length};
 ghost use Rattle.machine.specs.Start.{started};
 ghost use Rattle.explore_laws.specs.Places.{place_begun};
 ghost use Rattle.explore_laws.specs.Safe.{IsSafe};
@@ -25,6 +25,7 @@ use crate::question::Question;
 use crate::run_end::Ends;
 use byte_io::Progress;
 use explore_bounds::Bound;
+use explore_laws::Section;
 use explore_search::{Edges, Found, Seen, nearest_stuck, search};
 use image::Image;
 use machine::{Choice, Inputs};
@@ -86,13 +87,13 @@ fn stuck_turns<A: Allocator + Copy>(
 ) -> Result<Option<Vec<Choice, A>>, AllocError>
     requires seen { AreAllSeen (IsKey explorer.now.known.image.now (length explorer.now.inputs.now) explorer.now.known.harts.parts.items
         explorer.now.known.shareds.parts.items)
-        (place_of_key explorer.now.known.image.now (length explorer.now.inputs.now) explorer.now.known.harts.parts.items
+        (place_of_key explorer.now.known.code.section explorer.now.known.image.now (length explorer.now.inputs.now) explorer.now.known.harts.parts.items
         explorer.now.known.shareds.parts.items)
-        (place_begun None (settled_start None (started explorer.now.known.image.now explorer.now.inputs.now))) meant.now seen.now.keys seen.now.links.items }
-    requires edges { exit ≡ Must → HaveEdges (place_of_key explorer.now.known.image.now (length explorer.now.inputs.now)
+        (place_begun explorer.now.known.code.section (settled_start explorer.now.known.code.section (started explorer.now.known.image.now explorer.now.inputs.now))) meant.now seen.now.keys seen.now.links.items }
+    requires edges { exit ≡ Must → HaveEdges (place_of_key explorer.now.known.code.section explorer.now.known.image.now (length explorer.now.inputs.now)
         explorer.now.known.harts.parts.items explorer.now.known.shareds.parts.items) meant.now seen.now.keys seen.now.rows }
     ensures { IfOk result (λ found. AnswersExit exit meant.now
-        (place_begun None (settled_start None (started explorer.now.known.image.now explorer.now.inputs.now))) found) }
+        (place_begun explorer.now.known.code.section (settled_start explorer.now.known.code.section (started explorer.now.known.image.now explorer.now.inputs.now))) found) }
 {
     match exit {
         Exit::May => Ok(None),
@@ -105,13 +106,14 @@ fn choices_and_turns<A: Allocator + Copy>(
     alloc: A,
     image: &Image<A>,
     inputs: &Inputs,
+    section: Option<Section>,
     turns: &[Choice],
 ) -> Result<Failing<A>, AllocError>
-    ensures choices { IfOk result (λ list. list.choices.items ≡ choices_from_start None (started image.now inputs.now) turns.now) }
+    ensures choices { IfOk result (λ list. list.choices.items ≡ choices_from_start section (started image.now inputs.now) turns.now) }
     ensures turns { IfOk result (λ list. length turns.now ≡ list.turns) }
 {
     Ok(Failing {
-        choices: choices_of_turns(alloc, image, inputs, turns)?,
+        choices: choices_of_turns(alloc, image, inputs, section, turns)?,
         turns: turns.len(),
     })
 }
@@ -128,36 +130,42 @@ fn safe_answer<A: Allocator + Copy>(
     question: Question,
 ) -> Result<Answer<A>, AllocError>
     requires meant { meant.now ≡ meant_choices question.refusals (length inputs.now) }
-    requires first { place_begun None (settled_start None (started explorer.now.known.image.now explorer.now.inputs.now))
-        ≡ place_begun None (settled_start None (started image.now inputs.now)) }
-    requires safe { IsSafe meant.now (place_begun None (settled_start None (started image.now inputs.now)))
-        (fails_there question.expect.rule question.always inputs.now) }
-    requires counts { HasPlaces meant.now (place_begun None (settled_start None (started image.now inputs.now))) (length seen.now.keys) }
+    requires first { place_begun explorer.now.known.code.section (settled_start explorer.now.known.code.section (started explorer.now.known.image.now explorer.now.inputs.now))
+        ≡ place_begun question.never_both (settled_start question.never_both (started image.now inputs.now)) }
+    requires safe { IsSafe meant.now (place_begun question.never_both (settled_start question.never_both (started image.now inputs.now)))
+        (fails_there question.expect.rule question.always question.never_both inputs.now) }
+    requires counts { HasPlaces meant.now (place_begun question.never_both (settled_start question.never_both (started image.now inputs.now))) (length seen.now.keys) }
     requires seen { AreAllSeen (IsKey explorer.now.known.image.now (length explorer.now.inputs.now) explorer.now.known.harts.parts.items
         explorer.now.known.shareds.parts.items)
-        (place_of_key explorer.now.known.image.now (length explorer.now.inputs.now) explorer.now.known.harts.parts.items
+        (place_of_key explorer.now.known.code.section explorer.now.known.image.now (length explorer.now.inputs.now) explorer.now.known.harts.parts.items
         explorer.now.known.shareds.parts.items)
-        (place_begun None (settled_start None (started explorer.now.known.image.now explorer.now.inputs.now))) meant.now seen.now.keys seen.now.links.items }
+        (place_begun explorer.now.known.code.section (settled_start explorer.now.known.code.section (started explorer.now.known.image.now explorer.now.inputs.now))) meant.now seen.now.keys seen.now.links.items }
     requires reaches { AreAllReached (IsKey explorer.now.known.image.now (length explorer.now.inputs.now) explorer.now.known.harts.parts.items
         explorer.now.known.shareds.parts.items)
-        (place_of_key explorer.now.known.image.now (length explorer.now.inputs.now) explorer.now.known.harts.parts.items
+        (place_of_key explorer.now.known.code.section explorer.now.known.image.now (length explorer.now.inputs.now) explorer.now.known.harts.parts.items
         explorer.now.known.shareds.parts.items) meant.now
-        (place_begun None (settled_start None (started explorer.now.known.image.now explorer.now.inputs.now))) seen.now.keys }
-    requires exit_edges { question.expect.exit ≡ Must → HaveEdges (place_of_key explorer.now.known.image.now
+        (place_begun explorer.now.known.code.section (settled_start explorer.now.known.code.section (started explorer.now.known.image.now explorer.now.inputs.now))) seen.now.keys }
+    requires exit_edges { question.expect.exit ≡ Must → HaveEdges (place_of_key explorer.now.known.code.section explorer.now.known.image.now
         (length explorer.now.inputs.now) explorer.now.known.harts.parts.items explorer.now.known.shareds.parts.items)
         meant.now seen.now.keys seen.now.rows }
-    requires bound_edges { question.bounds ≡ Asked → HaveEdges (place_of_key explorer.now.known.image.now
+    requires bound_edges { question.bounds ≡ Asked → HaveEdges (place_of_key explorer.now.known.code.section explorer.now.known.image.now
         (length explorer.now.inputs.now) explorer.now.known.harts.parts.items explorer.now.known.shareds.parts.items)
         meant.now seen.now.keys seen.now.rows }
-    ensures holds { IfOk result (λ answer. HoldsOfEvery question.expect.rule question.always question.refusals image.now inputs.now answer) }
-    ensures places { IfOk result (λ answer. CountsPlaces question.refusals image.now inputs.now question.most answer) }
+    ensures holds { IfOk result (λ answer. HoldsOfEvery question.expect.rule question.always question.never_both question.refusals image.now inputs.now answer) }
+    ensures places { IfOk result (λ answer. CountsPlaces question.never_both question.refusals image.now inputs.now question.most answer) }
     ensures ends { IfOk result (λ answer. TellsEnds question.expect.rule question.refusals image.now inputs.now answer) }
-    ensures exits { IfOk result (λ answer. TellsExits question.expect.exit question.refusals image.now inputs.now answer) }
+    ensures exits { IfOk result (λ answer. TellsExits question.never_both question.expect.exit question.refusals image.now inputs.now answer) }
     ensures bounds { IfOk result (λ answer. TellsBounds question.bounds question.refusals image.now inputs.now answer) }
 {
     let expect = question.expect;
     match stuck_turns(alloc, explorer, meant, seen, expect.exit)? {
-        Some(turns) => Ok(Answer::Hangs(choices_and_turns(alloc, image, inputs, &turns)?)),
+        Some(turns) => Ok(Answer::Hangs(choices_and_turns(
+            alloc,
+            image,
+            inputs,
+            question.never_both,
+            &turns,
+        )?)),
         None => {
             let places = seen.keys.len();
             let harts = explorer.known_harts();
@@ -195,25 +203,32 @@ fn searched_answer<A: Allocator + Copy>(
     requires inputs { explorer.old.inputs.now ≡ inputs.now }
     requires rule { explorer.old.rule ≡ question.expect.rule }
     requires always { explorer.old.always ≡ question.always }
-    ensures holds { IfOk result (λ answer. HoldsOfEvery question.expect.rule question.always question.refusals image.now inputs.now answer) }
-    ensures places { IfOk result (λ answer. CountsPlaces question.refusals image.now inputs.now question.most answer) }
+    requires section { explorer.old.known.code.section ≡ question.never_both }
+    ensures holds { IfOk result (λ answer. HoldsOfEvery question.expect.rule question.always question.never_both question.refusals image.now inputs.now answer) }
+    ensures places { IfOk result (λ answer. CountsPlaces question.never_both question.refusals image.now inputs.now question.most answer) }
     ensures ends { IfOk result (λ answer. TellsEnds question.expect.rule question.refusals image.now inputs.now answer) }
-    ensures exits { IfOk result (λ answer. TellsExits question.expect.exit question.refusals image.now inputs.now answer) }
+    ensures exits { IfOk result (λ answer. TellsExits question.never_both question.expect.exit question.refusals image.now inputs.now answer) }
     ensures bounds { IfOk result (λ answer. TellsBounds question.bounds question.refusals image.now inputs.now answer) }
 {
     let edges = edges_for(question.expect.exit, question.bounds);
     match search(alloc, explorer, meant, question.most, edges, progress)? {
         Found::Safe(seen) => safe_answer(alloc, image, inputs, explorer, meant, &seen, question),
-        Found::Bad(turns) => Ok(Answer::Fails(choices_and_turns(alloc, image, inputs, &turns)?)),
+        Found::Bad(turns) => Ok(Answer::Fails(choices_and_turns(
+            alloc,
+            image,
+            inputs,
+            question.never_both,
+            &turns,
+        )?)),
         Found::Undecided => Ok(Answer::Undecided),
     }
 }
 
 /// Whether a list of the harts' choices, of any length, leads a program with these inputs to a
-/// failure: a word that isn't what it must be, a broken rule, or without a rule a hart that has
-/// faulted. None does; or one does, which is given; or turns reach more places than may be looked at. Where each hart must exit and none
-/// fails, it is also answered whether a list leads to a world that has no way out, and one that does
-/// is given. Where bounds are asked for and none fails or hangs, the exact bound on each hart's own
+/// failure: a word that isn't what it must be, two harts in the section of code, a broken rule, or
+/// without a rule a hart that has faulted. None does; or one does, which is given; or turns reach
+/// more places than may be looked at. Where each hart must exit and none fails, it is also answered
+/// whether a list leads to a world that has no way out, and one that does is given. Where bounds are asked for and none fails or hangs, the exact bound on each hart's own
 /// steps is given, or that it has none. The only error is out of memory.
 pub fn explore<A: Allocator + Copy>(
     alloc: A,
@@ -222,14 +237,21 @@ pub fn explore<A: Allocator + Copy>(
     question: Question,
     progress: &mut impl Progress,
 ) -> Result<Answer<A>, AllocError>
-    ensures holds { IfOk result (λ answer. HoldsOfEvery question.expect.rule question.always question.refusals image.now inputs.now answer) }
-    ensures places { IfOk result (λ answer. CountsPlaces question.refusals image.now inputs.now question.most answer) }
+    ensures holds { IfOk result (λ answer. HoldsOfEvery question.expect.rule question.always question.never_both question.refusals image.now inputs.now answer) }
+    ensures places { IfOk result (λ answer. CountsPlaces question.never_both question.refusals image.now inputs.now question.most answer) }
     ensures ends { IfOk result (λ answer. TellsEnds question.expect.rule question.refusals image.now inputs.now answer) }
-    ensures exits { IfOk result (λ answer. TellsExits question.expect.exit question.refusals image.now inputs.now answer) }
+    ensures exits { IfOk result (λ answer. TellsExits question.never_both question.expect.exit question.refusals image.now inputs.now answer) }
     ensures bounds { IfOk result (λ answer. TellsBounds question.bounds question.refusals image.now inputs.now answer) }
 {
     let meant = meant_choices(alloc, question.refusals, inputs.harts())?;
-    let mut explorer = Explorer::new(alloc, image, inputs, question.expect.rule, question.always)?;
+    let mut explorer = Explorer::new(
+        alloc,
+        image,
+        inputs,
+        question.expect.rule,
+        question.always,
+        question.never_both,
+    )?;
     searched_answer(
         alloc,
         image,

@@ -10,15 +10,17 @@ ghost use Rattle.outcome.specs.Outcome.{some_run};
 ghost use Rattle.outcome.specs.declared.expect.Exit.TheVariants.{May};
 ghost use Rattle.sched_run.specs.Chosen.{harts_of};
 ghost use Rattle.explore_space.specs.Places.{hart_numbered};
+ghost use Rattle.property_judge.specs.Property.{harts_between};
 ghost use Rattle.explore_space.specs.Failing.{breaks_word, one_each};
 
 use crate::question::Always;
+use explore_laws::Section;
 use explore_sites::{Cell, word_read};
 use hart_step::Hart;
 use image::Image;
 use object_library::Kind;
 use outcome::{Exit, Expect, some_run};
-use property_judge::compares;
+use property_judge::{compares, is_within};
 use sched_run::Chosen;
 use std::alloc::{AllocError, Allocator};
 
@@ -65,6 +67,34 @@ pub fn breaks_word<A: Allocator>(image: &Image<A>, cells: &[Cell], always: Alway
 {
     let value = word_read(image, cells, always.word);
     !compares(always.comparison, value, always.number)
+}
+
+// How many of these harts stand in a section.
+fn count_within(harts: &[Hart], section: Section) -> usize
+    ensures { result ≡ harts_between section.from section.to (map hart_of harts.now) }
+{
+    harts
+        .iter()
+        .filter(|hart| is_within(hart, section.from, section.to))
+        .count()
+}
+
+/// How many harts of a key stand in a section. Fails when out of memory.
+pub fn harts_within<A: Allocator>(
+    alloc: A,
+    harts: &[Hart],
+    count: usize,
+    key: &[u32],
+    section: Section,
+) -> Result<usize, AllocError>
+    requires long { count ≤ length key.now }
+    requires there { (k id : ℕ) → slice_get (take count key.now) k ≡ Some id → id < length harts.now }
+    ensures { IfOk result (λ within. within
+        ≡ harts_between section.from section.to (map (hart_numbered harts.now) (take count key.now))) }
+{
+    let by_key = harts_by_key(alloc, harts, count, key)?;
+    let within = count_within(by_key.as_slice(), section);
+    Ok(within)
 }
 
 /// Whether the run to a key's place has failed by its harts: its rule is broken, or without a rule a hart has

@@ -1,8 +1,9 @@
 //! The first key.
-ghost use Rattle.std.specs.Prelude.{◌≡◌, ◌<◌, ◌≤◌, ◌+◌, ◌*◌, ℕ, IfOk, length, map, slice_index, None};
+ghost use Rattle.std.specs.Prelude.{◌≡◌, ◌<◌, ◌≤◌, ◌+◌, ◌*◌, ℕ, IfOk, Option, length, map, slice_index};
 ghost use Rattle.hart_step.specs.Hart.{hart_of};
 ghost use Rattle.machine.specs.Start.{started};
 ghost use Rattle.explore_laws.specs.Places.{place_begun};
+ghost use Rattle.explore_laws.specs.declared.section.Section.{Section};
 ghost use Rattle.explore_space.specs.Places.{IsKeyOf};
 
 use crate::kept::Kept;
@@ -53,8 +54,8 @@ pub fn first_parts<A: Allocator + Copy>(
     harts: &mut Kept<Hart, A>,
     shareds: &mut Kept<Shared<A>, A>,
 ) -> Result<Vec<u32, A>, AllocError>
-    ensures { IfOk result (λ key. IsKeyOf image.now (length inputs.now) harts.new.parts.items shareds.new.parts.items key.items
-        (place_begun None (started image.now inputs.now))) }
+    ensures { IfOk result (λ key. (section : Option Section) → IsKeyOf section image.now (length inputs.now) harts.new.parts.items shareds.new.parts.items
+        key.items (place_begun section (started image.now inputs.now))) }
 {
     if image.entry() % 4 != 0 {
         return Err(AllocError);

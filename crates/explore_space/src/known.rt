@@ -1,5 +1,5 @@
 //! What is known of a program's worlds.
-ghost use Rattle.std.specs.Prelude.{◌≡◌, ◌<◌, List, ℕ, IfOk, length, None};
+ghost use Rattle.std.specs.Prelude.{◌≡◌, ◌<◌, List, ℕ, IfOk, length};
 ghost use Rattle.mem_store.specs.Image.{image_memory, segments_memory};
 ghost use Rattle.hart_local.specs.CodeMemory.{code_in};
 ghost use Rattle.machine.specs.Start.{started};
@@ -12,9 +12,10 @@ use crate::beginning::begun_key;
 use crate::first::first_parts;
 use crate::kept::Kept;
 use crate::memo::Memo;
+use crate::settling::LocalCode;
 use crate::shared::Shared;
 use crate::stepping::{settled_key, stepped_key};
-use hart_local::Code;
+use explore_laws::Section;
 use hart_step::Hart;
 use image::Image;
 use machine::{Choice, Inputs};
@@ -25,28 +26,38 @@ use std::alloc::{AllocError, Allocator};
 pub struct Known<'a, A: Allocator> {
     /// The program.
     pub image: &'a Image<A>,
+    /// Its code, and the section in which no local step is taken at once.
+    pub code: LocalCode<A>,
     /// The harts.
     pub harts: Kept<Hart, A>,
     /// What harts share.
     pub shareds: Kept<Shared<A>, A>,
     steps: Memo<A>,
     rests: Memo<A>,
+    ghost its_code: { segments_memory code.code ≡ code_in (image_memory image.now) },
     ghost steps_are: { AreSteps image.now harts.parts.items shareds.parts.items steps.keys steps.answers },
-    ghost rests_are: { AreRests image.now harts.parts.items rests.keys rests.answers },
+    ghost rests_are: { AreRests code.section image.now harts.parts.items rests.keys rests.answers },
 }
 
 impl<'a, A: Allocator + Copy> Known<'a, A> {
     /// Nothing is known yet. Fails when out of memory.
     #[tactic(auto, using(crate::proofs::MemoLemmas::no_steps, crate::proofs::MemoLemmas::no_rests))]
-    pub fn new(alloc: A, image: &'a Image<A>) -> Result<Known<'a, A>, AllocError>
-        ensures { IfOk result (λ known. known.image.now ≡ image.now) }
+    pub fn new(
+        alloc: A,
+        image: &'a Image<A>,
+        section: Option<Section>,
+    ) -> Result<Known<'a, A>, AllocError>
+        ensures image { IfOk result (λ known. known.image.now ≡ image.now) }
+        ensures section { IfOk result (λ known. known.code.section ≡ section) }
     {
+        let code = LocalCode::new(alloc, image, section)?;
         let harts = Kept::new(alloc)?;
         let shareds = Kept::new(alloc)?;
         let steps = Memo::new(alloc)?;
         let rests = Memo::new(alloc)?;
         Ok(Known {
             image,
+            code,
             harts,
             shareds,
             steps,
@@ -56,16 +67,12 @@ impl<'a, A: Allocator + Copy> Known<'a, A> {
 
     /// The key of the place in which turns start; nothing else is known then.
     #[tactic(auto, using(crate::proofs::MemoLemmas::no_steps, crate::proofs::MemoLemmas::no_rests))]
-    pub fn begin(
-        &mut self,
-        alloc: A,
-        code: &Code<A>,
-        inputs: &Inputs,
-    ) -> Result<Vec<u32, A>, AllocError>
-        requires { segments_memory code.now ≡ code_in (image_memory self.old.image.now) }
-        ensures key { IfOk result (λ key. IsKeyOf self.new.image.now (length inputs.now) self.new.harts.parts.items
-            self.new.shareds.parts.items key.items (place_begun None (settled_start None (started self.old.image.now inputs.now)))) }
+    pub fn begin(&mut self, alloc: A, inputs: &Inputs) -> Result<Vec<u32, A>, AllocError>
+        ensures key { IfOk result (λ key. IsKeyOf self.new.code.section self.new.image.now (length inputs.now) self.new.harts.parts.items
+            self.new.shareds.parts.items key.items
+            (place_begun self.old.code.section (settled_start self.old.code.section (started self.old.image.now inputs.now)))) }
         ensures image { self.new.image.now ≡ self.old.image.now }
+        ensures section { self.new.code.section ≡ self.old.code.section }
     {
         self.steps = Memo::new(alloc)?;
         self.rests = Memo::new(alloc)?;
@@ -79,7 +86,7 @@ impl<'a, A: Allocator + Copy> Known<'a, A> {
         begun_key(
             alloc,
             self.image,
-            code,
+            &self.code,
             inputs,
             &mut self.harts,
             &self.shareds.parts,
@@ -92,19 +99,18 @@ impl<'a, A: Allocator + Copy> Known<'a, A> {
     pub fn key_after(
         &mut self,
         alloc: A,
-        code: &Code<A>,
         count: usize,
         key: &[u32],
         turn: Choice,
     ) -> Result<Vec<u32, A>, AllocError>
-        requires its_code { segments_memory code.now ≡ code_in (image_memory self.old.image.now) }
-        requires is { IsKey self.old.image.now count self.old.harts.parts.items self.old.shareds.parts.items key.now }
-        ensures key { IfOk result (λ next. IsKeyOf self.old.image.now count self.new.harts.parts.items
-            self.new.shareds.parts.items next.items (place_after (place_of_key self.old.image.now count
+        requires { IsKey self.old.image.now count self.old.harts.parts.items self.old.shareds.parts.items key.now }
+        ensures key { IfOk result (λ next. IsKeyOf self.old.code.section self.old.image.now count self.new.harts.parts.items
+            self.new.shareds.parts.items next.items (place_after (place_of_key self.old.code.section self.old.image.now count
             self.old.harts.parts.items self.old.shareds.parts.items key.now) turn)) }
-        ensures kept { KeysStay self.old.image.now count self.old.harts.parts.items self.old.shareds.parts.items
+        ensures kept { KeysStay self.old.code.section self.old.image.now count self.old.harts.parts.items self.old.shareds.parts.items
             self.new.harts.parts.items self.new.shareds.parts.items }
         ensures image { self.new.image.now ≡ self.old.image.now }
+        ensures section { self.new.code.section ≡ self.old.code.section }
     {
         let next = stepped_key(
             alloc,
@@ -118,7 +124,7 @@ impl<'a, A: Allocator + Copy> Known<'a, A> {
         )?;
         settled_key(
             self.image,
-            code,
+            &self.code,
             count,
             &mut self.harts,
             &self.shareds.parts,

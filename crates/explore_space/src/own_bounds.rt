@@ -1,5 +1,5 @@
 //! The bounds on harts' own steps.
-ghost use Rattle.std.specs.Prelude.{◌≡◌, ℕ, ◌<◌, IfOk, length, None};
+ghost use Rattle.std.specs.Prelude.{◌≡◌, ℕ, ◌<◌, IfOk, length};
 ghost use Rattle.std.specs.List.{Contains};
 ghost use Rattle.machine.specs.Start.{started};
 ghost use Rattle.explore_laws.specs.Places.{place_begun};
@@ -53,25 +53,25 @@ fn bounds_of<A: Allocator + Copy>(
     meant: &[Choice],
     seen: &Seen<A>,
 ) -> Result<Vec<Bound, A>, AllocError>
-    requires first { place_begun None (settled_start None (started explorer.now.known.image.now explorer.now.inputs.now))
-        ≡ place_begun None (settled_start None (started image.now inputs.now)) }
+    requires first { place_begun explorer.now.known.code.section (settled_start explorer.now.known.code.section (started explorer.now.known.image.now explorer.now.inputs.now))
+        ≡ place_begun explorer.now.known.code.section (settled_start explorer.now.known.code.section (started image.now inputs.now)) }
     requires seen { AreAllSeen (IsKey explorer.now.known.image.now (length explorer.now.inputs.now) explorer.now.known.harts.parts.items
         explorer.now.known.shareds.parts.items)
-        (place_of_key explorer.now.known.image.now (length explorer.now.inputs.now) explorer.now.known.harts.parts.items
+        (place_of_key explorer.now.known.code.section explorer.now.known.image.now (length explorer.now.inputs.now) explorer.now.known.harts.parts.items
         explorer.now.known.shareds.parts.items)
-        (place_begun None (settled_start None (started explorer.now.known.image.now explorer.now.inputs.now))) meant.now seen.now.keys seen.now.links.items }
+        (place_begun explorer.now.known.code.section (settled_start explorer.now.known.code.section (started explorer.now.known.image.now explorer.now.inputs.now))) meant.now seen.now.keys seen.now.links.items }
     requires reaches { AreAllReached (IsKey explorer.now.known.image.now (length explorer.now.inputs.now) explorer.now.known.harts.parts.items
         explorer.now.known.shareds.parts.items)
-        (place_of_key explorer.now.known.image.now (length explorer.now.inputs.now) explorer.now.known.harts.parts.items
+        (place_of_key explorer.now.known.code.section explorer.now.known.image.now (length explorer.now.inputs.now) explorer.now.known.harts.parts.items
         explorer.now.known.shareds.parts.items) meant.now
-        (place_begun None (settled_start None (started explorer.now.known.image.now explorer.now.inputs.now))) seen.now.keys }
-    requires edges { HaveEdges (place_of_key explorer.now.known.image.now (length explorer.now.inputs.now)
+        (place_begun explorer.now.known.code.section (settled_start explorer.now.known.code.section (started explorer.now.known.image.now explorer.now.inputs.now))) seen.now.keys }
+    requires edges { HaveEdges (place_of_key explorer.now.known.code.section explorer.now.known.image.now (length explorer.now.inputs.now)
         explorer.now.known.harts.parts.items explorer.now.known.shareds.parts.items) meant.now seen.now.keys seen.now.rows }
     requires meant { MayAllStep meant.now (length inputs.now) }
     ensures { IfOk result (λ bounds. AreBounds meant.now (started image.now inputs.now) (length inputs.now) bounds.items) }
 {
     let steps = steps_of_turns(alloc, explorer, meant, &seen.keys)?;
-    let begun = begun_steps(alloc, image, inputs)?;
+    let begun = begun_steps(alloc, image, inputs, explorer.section())?;
     let mut bounds = Vec::new(alloc);
     'harts: for hart in 0..inputs.harts() {
         let bound = own_bound(alloc, meant, &seen.rows, &steps, hart)?;
@@ -92,19 +92,19 @@ pub fn asked_bounds<A: Allocator + Copy>(
     seen: &Seen<A>,
     asked: OwnBounds,
 ) -> Result<Vec<Bound, A>, AllocError>
-    requires first { place_begun None (settled_start None (started explorer.now.known.image.now explorer.now.inputs.now))
-        ≡ place_begun None (settled_start None (started image.now inputs.now)) }
+    requires first { place_begun explorer.now.known.code.section (settled_start explorer.now.known.code.section (started explorer.now.known.image.now explorer.now.inputs.now))
+        ≡ place_begun explorer.now.known.code.section (settled_start explorer.now.known.code.section (started image.now inputs.now)) }
     requires seen { AreAllSeen (IsKey explorer.now.known.image.now (length explorer.now.inputs.now) explorer.now.known.harts.parts.items
         explorer.now.known.shareds.parts.items)
-        (place_of_key explorer.now.known.image.now (length explorer.now.inputs.now) explorer.now.known.harts.parts.items
+        (place_of_key explorer.now.known.code.section explorer.now.known.image.now (length explorer.now.inputs.now) explorer.now.known.harts.parts.items
         explorer.now.known.shareds.parts.items)
-        (place_begun None (settled_start None (started explorer.now.known.image.now explorer.now.inputs.now))) meant.now seen.now.keys seen.now.links.items }
+        (place_begun explorer.now.known.code.section (settled_start explorer.now.known.code.section (started explorer.now.known.image.now explorer.now.inputs.now))) meant.now seen.now.keys seen.now.links.items }
     requires reaches { AreAllReached (IsKey explorer.now.known.image.now (length explorer.now.inputs.now) explorer.now.known.harts.parts.items
         explorer.now.known.shareds.parts.items)
-        (place_of_key explorer.now.known.image.now (length explorer.now.inputs.now) explorer.now.known.harts.parts.items
+        (place_of_key explorer.now.known.code.section explorer.now.known.image.now (length explorer.now.inputs.now) explorer.now.known.harts.parts.items
         explorer.now.known.shareds.parts.items) meant.now
-        (place_begun None (settled_start None (started explorer.now.known.image.now explorer.now.inputs.now))) seen.now.keys }
-    requires edges { asked ≡ Asked → HaveEdges (place_of_key explorer.now.known.image.now (length explorer.now.inputs.now)
+        (place_begun explorer.now.known.code.section (settled_start explorer.now.known.code.section (started explorer.now.known.image.now explorer.now.inputs.now))) seen.now.keys }
+    requires edges { asked ≡ Asked → HaveEdges (place_of_key explorer.now.known.code.section explorer.now.known.image.now (length explorer.now.inputs.now)
         explorer.now.known.harts.parts.items explorer.now.known.shareds.parts.items) meant.now seen.now.keys seen.now.rows }
     requires meant { MayAllStep meant.now (length inputs.now) }
     ensures { IfOk result (λ bounds. AnswersBounds asked meant.now (started image.now inputs.now) (length inputs.now) bounds.items) }

@@ -17,7 +17,7 @@ fn take_row<A: Allocator + Copy>(
 ) -> Result<(), AllocError>
     requires { IsKey explorer.now.known.image.now (length explorer.now.inputs.now) explorer.now.known.harts.parts.items
         explorer.now.known.shareds.parts.items key.now }
-    ensures { OnOk result (AreStepsFrom turns.now (place_of_key explorer.now.known.image.now (length explorer.now.inputs.now)
+    ensures { OnOk result (AreStepsFrom turns.now (place_of_key explorer.now.known.code.section explorer.now.known.image.now (length explorer.now.inputs.now)
         explorer.now.known.harts.parts.items explorer.now.known.shareds.parts.items key.now) row.new.items) }
 {
     row.clear();
@@ -38,7 +38,7 @@ pub fn steps_of_turns<A: Allocator + Copy>(
     requires { (k : ℕ) (key : List ℕ) → slice_get keys.now k ≡ Some key
         → IsKey explorer.now.known.image.now (length explorer.now.inputs.now) explorer.now.known.harts.parts.items
         explorer.now.known.shareds.parts.items key }
-    ensures { IfOk result (λ steps. HaveSteps (place_of_key explorer.now.known.image.now (length explorer.now.inputs.now)
+    ensures { IfOk result (λ steps. HaveSteps (place_of_key explorer.now.known.code.section explorer.now.known.image.now (length explorer.now.inputs.now)
         explorer.now.known.harts.parts.items explorer.now.known.shareds.parts.items) turns.now keys.now steps) }
 {
     let mut steps = Rows::new(alloc);

@@ -1,5 +1,5 @@
 //! Keys after a choice.
-ghost use Rattle.std.specs.Prelude.{◌≡◌, if◌then◌else◌, ◌<◌, IfOk, length, None};
+ghost use Rattle.std.specs.Prelude.{◌≡◌, if◌then◌else◌, ◌<◌, IfOk, Option, length};
 ghost use Rattle.mem_store.specs.Image.{image_memory, segments_memory};
 ghost use Rattle.hart_step.specs.Hart.{hart_of};
 ghost use Rattle.hart_local.specs.CodeMemory.{code_in};
@@ -7,16 +7,16 @@ ghost use Rattle.machine.specs.World.{World};
 ghost use Rattle.explore_laws.specs.OwnSteps.{steps_in_turn};
 ghost use Rattle.explore_laws.specs.Places.{place_settled, place_stepped};
 ghost use Rattle.explore_laws.specs.Settling.{at_once, rested};
+ghost use Rattle.explore_laws.specs.declared.section.Section.{Section};
 ghost use Rattle.explore_search.specs.Searched.{GoesOn};
 ghost use Rattle.explore_space.specs.Memo.{AreRests, AreSteps};
 ghost use Rattle.explore_space.specs.Places.{HartsDiffer, IsKey, IsKeyOf, KeysStay, KeptOnce, PartsStep, ShowsHart, hart_numbered, place_of_key};
 
 use crate::kept::{Kept, keep_hart, keep_shared};
 use crate::memo::Memo;
-use crate::settling::settle;
+use crate::settling::{LocalCode, settle};
 use crate::shared::Shared;
 use explore_sites::step_site;
-use hart_local::Code;
 use hart_reservations::MAX_HARTS;
 use hart_step::{Hart, HartState};
 use image::Image;
@@ -126,20 +126,20 @@ fn known_step<A: Allocator + Copy>(
 // The number of what a hart's local steps make of it, which are taken if it isn't kept.
 fn known_rest<A: Allocator + Copy>(
     image: &Image<A>,
-    code: &Code<A>,
+    code: &LocalCode<A>,
     harts: &mut Kept<Hart, A>,
     rests: &mut Memo<A>,
     id: u32,
 ) -> Result<u32, AllocError>
-    requires its_code { segments_memory code.now ≡ code_in (image_memory image.now) }
+    requires its_code { segments_memory code.now.code ≡ code_in (image_memory image.now) }
     requires there { id < length harts.old.parts.items }
-    requires kept { AreRests image.now harts.old.parts.items rests.old.keys rests.old.answers }
+    requires kept { AreRests code.now.section image.now harts.old.parts.items rests.old.keys rests.old.answers }
     ensures there { IfOk result (λ after. after < length harts.new.parts.items) }
     ensures rests { IfOk result (λ after. hart_numbered harts.new.parts.items after
-        ≡ rested None (code_in (image_memory image.now)) at_once (hart_numbered harts.old.parts.items id)) }
+        ≡ rested code.now.section (code_in (image_memory image.now)) at_once (hart_numbered harts.old.parts.items id)) }
     ensures harts_go { GoesOn harts.old.parts.items harts.new.parts.items }
     ensures once { HartsDiffer harts.old.parts.items → HartsDiffer harts.new.parts.items }
-    ensures kept { AreRests image.now harts.new.parts.items rests.new.keys rests.new.answers }
+    ensures kept { AreRests code.now.section image.now harts.new.parts.items rests.new.keys rests.new.answers }
 {
     let _ = image;
     if let Some([after]) = rests.find(&[id]) {
@@ -169,9 +169,9 @@ pub fn stepped_key<A: Allocator + Copy>(
     requires is { IsKey image.now count harts.old.parts.items shareds.old.parts.items key.now }
     requires kept { AreSteps image.now harts.old.parts.items shareds.old.parts.items steps.old.keys steps.old.answers }
     ensures there { IfOk result (λ _. choice.hart < count) }
-    ensures key { IfOk result (λ next. IsKeyOf image.now count harts.new.parts.items shareds.new.parts.items next.items
-        (place_stepped (place_of_key image.now count harts.old.parts.items shareds.old.parts.items key.now) choice)) }
-    ensures kept { KeysStay image.now count harts.old.parts.items shareds.old.parts.items harts.new.parts.items shareds.new.parts.items }
+    ensures key { IfOk result (λ next. (section : Option Section) → IsKeyOf section image.now count harts.new.parts.items shareds.new.parts.items next.items
+        (place_stepped (place_of_key section image.now count harts.old.parts.items shareds.old.parts.items key.now) choice)) }
+    ensures kept { (section : Option Section) → KeysStay section image.now count harts.old.parts.items shareds.old.parts.items harts.new.parts.items shareds.new.parts.items }
     ensures harts_go { GoesOn harts.old.parts.items harts.new.parts.items }
     ensures known { AreSteps image.now harts.new.parts.items shareds.new.parts.items steps.new.keys steps.new.answers }
 {
@@ -193,7 +193,7 @@ pub fn stepped_key<A: Allocator + Copy>(
 /// The key of the place where a hart has taken its local steps.
 pub fn settled_key<A: Allocator + Copy>(
     image: &Image<A>,
-    code: &Code<A>,
+    code: &LocalCode<A>,
     count: usize,
     harts: &mut Kept<Hart, A>,
     shareds: &[Shared<A>],
@@ -201,15 +201,15 @@ pub fn settled_key<A: Allocator + Copy>(
     key: Vec<u32, A>,
     number: usize,
 ) -> Result<Vec<u32, A>, AllocError>
-    requires its_code { segments_memory code.now ≡ code_in (image_memory image.now) }
+    requires its_code { segments_memory code.now.code ≡ code_in (image_memory image.now) }
     requires there { number < count }
     requires is { IsKey image.now count harts.old.parts.items shareds.now key.items }
-    requires kept { AreRests image.now harts.old.parts.items rests.old.keys rests.old.answers }
-    ensures key { IfOk result (λ next. IsKeyOf image.now count harts.new.parts.items shareds.now next.items
-        (place_settled (place_of_key image.now count harts.old.parts.items shareds.now key.items) number)) }
-    ensures kept { KeysStay image.now count harts.old.parts.items shareds.now harts.new.parts.items shareds.now }
+    requires kept { AreRests code.now.section image.now harts.old.parts.items rests.old.keys rests.old.answers }
+    ensures key { IfOk result (λ next. IsKeyOf code.now.section image.now count harts.new.parts.items shareds.now next.items
+        (place_settled (place_of_key code.now.section image.now count harts.old.parts.items shareds.now key.items) number)) }
+    ensures kept { KeysStay code.now.section image.now count harts.old.parts.items shareds.now harts.new.parts.items shareds.now }
     ensures harts_go { GoesOn harts.old.parts.items harts.new.parts.items }
-    ensures known { AreRests image.now harts.new.parts.items rests.new.keys rests.new.answers }
+    ensures known { AreRests code.now.section image.now harts.new.parts.items rests.new.keys rests.new.answers }
 {
     let _ = shareds;
     let mut next = key;
@@ -223,15 +223,15 @@ pub fn settled_key<A: Allocator + Copy>(
 pub fn steps_from<A: Allocator + Copy>(
     alloc: A,
     image: &Image<A>,
-    code: &Code<A>,
+    code: &LocalCode<A>,
     hart: &Hart,
     shared: &Shared<A>,
     turn: Choice,
 ) -> Result<u32, AllocError>
-    requires its_code { segments_memory code.now ≡ code_in (image_memory image.now) }
+    requires its_code { segments_memory code.now.code ≡ code_in (image_memory image.now) }
     requires there { turn.hart < 32 }
     ensures { IfOk result (λ steps. (w : World) → ShowsHart image.now w turn.hart (hart_of hart.now) shared.now
-        → steps ≡ steps_in_turn None w turn.hart turn) }
+        → steps ≡ steps_in_turn code.now.section w turn.hart turn) }
 {
     match hart.state {
         HartState::Running => {}

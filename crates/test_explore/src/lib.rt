@@ -12,4 +12,6 @@ mod exit_tests;
 #[cfg(test)]
 mod failing_tests;
 #[cfg(test)]
+mod section_tests;
+#[cfg(test)]
 mod world_tests;

@@ -1,4 +1,4 @@
-use Rattle.std.proofs.Common.{true, None}
+use Rattle.std.proofs.Common.{true}
 use Rattle.machine.specs.Start.{started}
 use Rattle.explore_laws.specs.Places.{place_begun}
 use Rattle.explore_space.specs.Begun.{world_begun}
@@ -9,7 +9,7 @@ use Rattle.explore_space.proofs.beginning.begun_key.Given as goal
 -- the harts before this one have taken their first local steps
 abbrev pub invariant-numbers : goal.invariant-numbers
 invariant-numbers g l = record {
-  key : IsKeyOf l.image l.count l.harts.parts.items l.shareds l.key.items
-      (place_begun None (world_begun None (started l.image l.inputs) (λ h. true) l.number));
-  known : AreRests l.image l.harts.parts.items l.rests.keys l.rests.answers;
+  key : IsKeyOf l.code.section l.image l.count l.harts.parts.items l.shareds l.key.items
+      (place_begun l.code.section (world_begun l.code.section (started l.image l.inputs) (λ h. true) l.number));
+  known : AreRests l.code.section l.image l.harts.parts.items l.rests.keys l.rests.answers;
 }

@@ -1,4 +1,4 @@
-use Rattle.std.proofs.Common.{◌+◌, List, [], length, map, Some, ap, sym, ◌∙◌, arith}
+use Rattle.std.proofs.Common.{◌+◌, List, [], length, map, Some, ap, sym, ◌∙◌, subst, arith}
 use Rattle.std.proofs.lemmas.List.{length-append, length-map}
 use Rattle.std.proofs.lemmas.Option.{slice_get-get_or, slice_get-map}
 use Rattle.std.specs.Option.{option_map}
@@ -10,14 +10,14 @@ use Rattle.machine.specs.Start.{started}
 use Rattle.machine.specs.World.{World}
 use Rattle.machine.proofs.RunLaws.{length-started}
 use Rattle.explore_laws.proofs.SettleLemmas.{run_nothing}
-use Rattle.explore_space.proofs.BeginLemmas.{first_of_more, first_of_none}
+use Rattle.explore_space.proofs.BeginLemmas.{AreFirst, first_of_more, first_of_none}
 use Rattle.explore_space.proofs.beginning.begun_steps.Goals as goal
 
 pub harts-init : goal.harts-init
 harts-init g c = record {
   count = ap length c.new-steps.ensures.items;
   low = (let none = ap length c.new-steps.ensures.items in omega (arith, none));
-  are = first_of_none (started c.args.image.now c.args.inputs.now) _ c.new-steps.ensures.items;
+  are = first_of_none c.in_ok-code.code.section (started c.args.image.now c.args.inputs.now) _ c.new-steps.ensures.items;
 }
 
 pub harts-preserved : goal.harts-preserved
@@ -36,7 +36,7 @@ harts-preserved g c =
     record {
       count = count;
       low = omega (arith, count, here, len);
-      are = first_of_more w c.harts.steps.items c.push.new.self.items c.harts.hart-index _ c.harts.invariant.count
+      are = first_of_more c.in_ok-code.code.section w c.harts.steps.items c.push.new.self.items c.harts.hart-index _ c.harts.invariant.count
           (c.steps_of_hart.ensures w c.harts.hart-index at code_is) c.harts.invariant.are c.in_ok-push.ensures.items;
     }
 
@@ -49,3 +49,7 @@ returns-clause-count g c =
     let count = c.harts.invariant.count in
     let low = c.harts.invariant.low in
     omega (arith, len, past, count, low)
+
+pub returns-clause-are : goal.returns-clause-are
+returns-clause-are g c =
+    subst (λ s. AreFirst s (started c.args.image.now c.args.inputs.now) c.harts.steps.items) c.in_ok-code.ensures.section c.harts.invariant.are

@@ -8,5 +8,5 @@ abbrev pub invariant-harts : goal.invariant-harts
 invariant-harts g l = record {
   count : length l.steps.items ≡ l.hart-index;
   low : length l.steps.items ≤ length l.inputs;
-  are : AreFirst (started l.image l.inputs) l.steps.items;
+  are : AreFirst l.code.section (started l.image l.inputs) l.steps.items;
 }

@@ -1,4 +1,4 @@
-use Rattle.std.proofs.Common.{◌≡◌, ◌++◌, length, take, None}
+use Rattle.std.proofs.Common.{◌≡◌, ◌++◌, length, take}
 use Rattle.machine.specs.Chosen.{is_chosen}
 use Rattle.machine.specs.Start.{started}
 use Rattle.machine.specs.State.{state}
@@ -10,8 +10,8 @@ use Rattle.explore_space.proofs.expanding.choices_of_turns.Given as goal
 -- the first local steps, the choices of the turns so far, and where they lead
 abbrev pub invariant-turns : goal.invariant-turns
 invariant-turns g l = record {
-  choices : l.choices.items ≡ begun_choices None (started l.image l.inputs) (is_chosen l.turns) (length (started l.image l.inputs).harts)
-      ++ turns_choices None (world_begun None (started l.image l.inputs) (is_chosen l.turns) (length (started l.image l.inputs).harts)) (take l.turn-index l.turns);
-  world : state l.machine ≡ run (world_begun None (started l.image l.inputs) (is_chosen l.turns) (length (started l.image l.inputs).harts))
-      (turns_choices None (world_begun None (started l.image l.inputs) (is_chosen l.turns) (length (started l.image l.inputs).harts)) (take l.turn-index l.turns));
+  choices : l.choices.items ≡ begun_choices l.code.section (started l.image l.inputs) (is_chosen l.turns) (length (started l.image l.inputs).harts)
+      ++ turns_choices l.code.section (world_begun l.code.section (started l.image l.inputs) (is_chosen l.turns) (length (started l.image l.inputs).harts)) (take l.turn-index l.turns);
+  world : state l.machine ≡ run (world_begun l.code.section (started l.image l.inputs) (is_chosen l.turns) (length (started l.image l.inputs).harts))
+      (turns_choices l.code.section (world_begun l.code.section (started l.image l.inputs) (is_chosen l.turns) (length (started l.image l.inputs).harts)) (take l.turn-index l.turns));
 }

@@ -1,4 +1,4 @@
-use Rattle.std.proofs.Common.{false, true, List, [], ◌++◌, ap, sym, ◌∙◌, None}
+use Rattle.std.proofs.Common.{false, true, List, [], ◌++◌, ap, sym, ◌∙◌}
 use Rattle.std.proofs.lemmas.List.{append-nil}
 use Rattle.mem_store.specs.Memory.{Memory}
 use Rattle.hart_step.specs.Hart.{hart_of}
@@ -10,17 +10,17 @@ use Rattle.explore_space.proofs.BeginLemmas.{begun_by_state, first_by_state}
 use Rattle.explore_space.proofs.TurnLists.{plain_more, settles}
 use Rattle.explore_space.proofs.expanding.take_first.Goals as goal
 
-pub returns-then-not-is_running-clause-world : goal.returns-then-not-is_running-clause-world
-returns-then-not-is_running-clause-world g c =
-    begun_by_state (state c.args.machine.now) c.args.number (hart_of c.hart.result.now) (hart_of c.settle-count.new.hart) c.hart.ensures
-    (c.settle-count.ensures.hart ∙ ap (λ (m : Memory). rested None m at_once (hart_of c.hart.result.now)) c.requires.code)
-    false (sym c.if-not-is_running.true ∙ c.is_running.ensures)
+pub returns-then-not-runs_outside-clause-world : goal.returns-then-not-runs_outside-clause-world
+returns-then-not-runs_outside-clause-world g c =
+    begun_by_state c.args.code.now.section (state c.args.machine.now) c.args.number (hart_of c.hart.result.now) (hart_of c.settle-count.new.hart) c.hart.ensures
+    (c.settle-count.ensures.hart ∙ ap (λ (m : Memory). rested c.args.code.now.section m at_once (hart_of c.hart.result.now)) c.requires.code)
+    false (sym c.if-not-runs_outside.true ∙ c.runs_outside.ensures)
 
-pub returns-then-not-is_running-clause-choices : goal.returns-then-not-is_running-clause-choices
-returns-then-not-is_running-clause-choices g c =
-    let first = first_by_state (state c.args.machine.now) c.args.number (hart_of c.hart.result.now) (hart_of c.settle-count.new.hart) c.hart.ensures
-    (c.settle-count.ensures.hart ∙ ap (λ (m : Memory). rested None m at_once (hart_of c.hart.result.now)) c.requires.code)
-    false (sym c.if-not-is_running.true ∙ c.is_running.ensures) in
+pub returns-then-not-runs_outside-clause-choices : goal.returns-then-not-runs_outside-clause-choices
+returns-then-not-runs_outside-clause-choices g c =
+    let first = first_by_state c.args.code.now.section (state c.args.machine.now) c.args.number (hart_of c.hart.result.now) (hart_of c.settle-count.new.hart) c.hart.ensures
+    (c.settle-count.ensures.hart ∙ ap (λ (m : Memory). rested c.args.code.now.section m at_once (hart_of c.hart.result.now)) c.requires.code)
+    false (sym c.if-not-runs_outside.true ∙ c.runs_outside.ensures) in
     sym (append-nil c.args.choices.now.items) ∙ ap (λ n. c.args.choices.now.items ++ plain_choices c.args.number n) first
 
 pub returns-clause-world : goal.returns-clause-world
@@ -28,18 +28,18 @@ returns-clause-world g c =
     let w = state c.args.machine.now in
     let v = hart_of c.hart.result.now in
     let u = hart_of c.settle-count.new.hart in
-    let u_is = c.settle-count.ensures.hart ∙ ap (λ (m : Memory). rested None m at_once v) c.requires.code in
-    c.put_hart.ensures ∙ settles None w c.args.number v u c.hart.ensures u_is
-    ∙ begun_by_state w c.args.number v u c.hart.ensures u_is true (sym c.if-not-is_running.false ∙ c.is_running.ensures)
+    let u_is = c.settle-count.ensures.hart ∙ ap (λ (m : Memory). rested c.args.code.now.section m at_once v) c.requires.code in
+    c.put_hart.ensures ∙ settles c.args.code.now.section w c.args.number v u c.hart.ensures u_is
+    ∙ begun_by_state c.args.code.now.section w c.args.number v u c.hart.ensures u_is true (sym c.if-not-runs_outside.false ∙ c.runs_outside.ensures)
 
 pub returns-clause-choices : goal.returns-clause-choices
 returns-clause-choices g c =
     let w = state c.args.machine.now in
     let v = hart_of c.hart.result.now in
     let u = hart_of c.settle-count.new.hart in
-    let u_is = c.settle-count.ensures.hart ∙ ap (λ (m : Memory). rested None m at_once v) c.requires.code in
+    let u_is = c.settle-count.ensures.hart ∙ ap (λ (m : Memory). rested c.args.code.now.section m at_once v) c.requires.code in
     c.in_ok-resize.ensures.items
     ∙ plain_more c.args.choices.now.items c.args.number c.settle-count.result _ _ (c.len-len.ensures ∙ c.args.choices.now.ok.0) c.args.choices.now.ok.0
     ∙ ap (λ n. c.args.choices.now.items ++ plain_choices c.args.number n)
-    (c.settle-count.ensures.steps ∙ ap (λ (m : Memory). rest_steps None m at_once v) c.requires.code
-    ∙ first_by_state w c.args.number v u c.hart.ensures u_is true (sym c.if-not-is_running.false ∙ c.is_running.ensures))
+    (c.settle-count.ensures.steps ∙ ap (λ (m : Memory). rest_steps c.args.code.now.section m at_once v) c.requires.code
+    ∙ first_by_state c.args.code.now.section w c.args.number v u c.hart.ensures u_is true (sym c.if-not-runs_outside.false ∙ c.runs_outside.ensures))

@@ -1,4 +1,4 @@
-use Rattle.std.proofs.Common.{◌≡◌, ℕ, List, length, ap, sym, ◌∙◌, subst, None}
+use Rattle.std.proofs.Common.{◌≡◌, ℕ, List, length, ap, sym, ◌∙◌, subst}
 use Rattle.machine.specs.Start.{started}
 use Rattle.machine.specs.declared.choice.Choice.{Choice}
 use Rattle.explore_laws.specs.Places.{place_begun}
@@ -14,31 +14,31 @@ use Rattle.explore_space.proofs.exploring.searched_answer.Goals as goal
 
 pub safe_answer-requires-clause-first : goal.safe_answer-requires-clause-first
 safe_answer-requires-clause-first g c =
-    c.in_ok-seen.ensures.first ∙ (λ i. place_begun None (settled_start None (started (c.requires.image i) (c.requires.inputs i))))
+    c.in_ok-seen.ensures.first ∙ (λ i. place_begun (c.requires.section i) (settled_start (c.requires.section i) (started (c.requires.image i) (c.requires.inputs i))))
 
 pub safe_answer-requires-clause-safe : goal.safe_answer-requires-clause-safe
 safe_answer-requires-clause-safe g c =
-    moved (λ m i n r a f. SearchAnswers m (place_begun None (settled_start None (started i n))) (fails_there r a n) f)
+    moved (λ m i n r a s f. SearchAnswers m (place_begun s (settled_start s (started i n))) (fails_there r a s n) f)
     (λ i. c.args.meant.now) c.requires.image
-    c.requires.inputs c.requires.rule c.requires.always c.in-Safe.is c.in_ok-seen.ensures.answers
+    c.requires.inputs c.requires.rule c.requires.always c.requires.section c.in-Safe.is c.in_ok-seen.ensures.answers
 
 pub safe_answer-requires-clause-counts : goal.safe_answer-requires-clause-counts
 safe_answer-requires-clause-counts g c =
-    moved (λ m i n r a f. SearchCounts m (place_begun None (settled_start None (started i n))) c.args.question.most f)
+    moved (λ m i n r a s f. SearchCounts m (place_begun s (settled_start s (started i n))) c.args.question.most f)
     (λ i. c.args.meant.now) c.requires.image
-    c.requires.inputs c.requires.rule c.requires.always c.in-Safe.is c.in_ok-seen.ensures.counts
+    c.requires.inputs c.requires.rule c.requires.always c.requires.section c.in-Safe.is c.in_ok-seen.ensures.counts
 
 pub safe_answer-requires-clause-seen : goal.safe_answer-requires-clause-seen
 safe_answer-requires-clause-seen g c =
     let space = c.search.new.space in
     let n = length space.inputs.now in
     let keys = IsKey space.known.image.now n space.known.harts.parts.items space.known.shareds.parts.items in
-    let place = place_of_key space.known.image.now n space.known.harts.parts.items space.known.shareds.parts.items in
-    subst (λ (ms : List Choice). AreAllSeen keys place (place_begun None (settled_start None (started space.known.image.now space.inputs.now))) ms c.in-Safe.seen.keys
+    let place = place_of_key space.known.code.section space.known.image.now n space.known.harts.parts.items space.known.shareds.parts.items in
+    subst (λ (ms : List Choice). AreAllSeen keys place (place_begun space.known.code.section (settled_start space.known.code.section (started space.known.image.now space.inputs.now))) ms c.in-Safe.seen.keys
     c.in-Safe.seen.links.items) (λ i. c.args.meant.now)
     (subst (λ p. AreAllSeen keys place p c.args.meant.now c.in-Safe.seen.keys c.in-Safe.seen.links.items) (sym c.in_ok-seen.ensures.first)
     (subst (λ f. SearchSees keys place c.args.meant.now
-    (place_begun None (settled_start None (started c.args.explorer.now.known.image.now c.args.explorer.now.inputs.now))) f) c.in-Safe.is
+    (place_begun c.args.explorer.now.known.code.section (settled_start c.args.explorer.now.known.code.section (started c.args.explorer.now.known.image.now c.args.explorer.now.inputs.now))) f) c.in-Safe.is
     c.in_ok-seen.ensures.sees))
 
 pub safe_answer-requires-clause-reaches : goal.safe_answer-requires-clause-reaches
@@ -46,19 +46,19 @@ safe_answer-requires-clause-reaches g c =
     let space = c.search.new.space in
     let n = length space.inputs.now in
     let keys = IsKey space.known.image.now n space.known.harts.parts.items space.known.shareds.parts.items in
-    let place = place_of_key space.known.image.now n space.known.harts.parts.items space.known.shareds.parts.items in
-    subst (λ (ms : List Choice). AreAllReached keys place ms (place_begun None (settled_start None (started space.known.image.now space.inputs.now))) c.in-Safe.seen.keys)
+    let place = place_of_key space.known.code.section space.known.image.now n space.known.harts.parts.items space.known.shareds.parts.items in
+    subst (λ (ms : List Choice). AreAllReached keys place ms (place_begun space.known.code.section (settled_start space.known.code.section (started space.known.image.now space.inputs.now))) c.in-Safe.seen.keys)
     (λ i. c.args.meant.now)
     (subst (λ p. AreAllReached keys place c.args.meant.now p c.in-Safe.seen.keys) (sym c.in_ok-seen.ensures.first)
     (subst (λ f. SearchReaches keys place c.args.meant.now
-    (place_begun None (settled_start None (started c.args.explorer.now.known.image.now c.args.explorer.now.inputs.now))) f) c.in-Safe.is
+    (place_begun c.args.explorer.now.known.code.section (settled_start c.args.explorer.now.known.code.section (started c.args.explorer.now.known.image.now c.args.explorer.now.inputs.now))) f) c.in-Safe.is
     c.in_ok-seen.ensures.reaches))
 
 pub safe_answer-requires-clause-exit_edges : goal.safe_answer-requires-clause-exit_edges
 safe_answer-requires-clause-exit_edges g c =
     let space = c.search.new.space in
     let n = length space.inputs.now in
-    let place = place_of_key space.known.image.now n space.known.harts.parts.items space.known.shareds.parts.items in
+    let place = place_of_key space.known.code.section space.known.image.now n space.known.harts.parts.items space.known.shareds.parts.items in
     leads_where place c.args.question.expect.exit c.args.question.bounds c.edges_for-edges.ensures c.in-Safe.is
     (λ i. c.args.meant.now) c.in_ok-seen.ensures.leads
 
@@ -66,17 +66,17 @@ pub safe_answer-requires-clause-bound_edges : goal.safe_answer-requires-clause-b
 safe_answer-requires-clause-bound_edges g c =
     let space = c.search.new.space in
     let n = length space.inputs.now in
-    let place = place_of_key space.known.image.now n space.known.harts.parts.items space.known.shareds.parts.items in
+    let place = place_of_key space.known.code.section space.known.image.now n space.known.harts.parts.items space.known.shareds.parts.items in
     leads_asked place c.args.question.expect.exit c.args.question.bounds c.edges_for-edges.ensures c.in-Safe.is
     (λ i. c.args.meant.now) c.in_ok-seen.ensures.leads
 
 pub returns-in_ok-choices_and_turns-in-Bad-clause-holds : goal.returns-in_ok-choices_and_turns-in-Bad-clause-holds
 returns-in_ok-choices_and_turns-in-Bad-clause-holds g c =
-    bad_is_bad c.args.question.expect.rule c.args.question.always c.args.question.refusals c.args.image.now c.args.inputs.now c.in-Bad.turns.items
+    bad_is_bad c.args.question.expect.rule c.args.question.always c.args.question.never_both c.args.question.refusals c.args.image.now c.args.inputs.now c.in-Bad.turns.items
     c.in_ok-choices_and_turns-in-Bad.field-0.choices.items c.in_ok-choices_and_turns-in-Bad.field-0.turns
-    (moved (λ m i n r a f. SearchAnswers m (place_begun None (settled_start None (started i n))) (fails_there r a n) f)
+    (moved (λ m i n r a s f. SearchAnswers m (place_begun s (settled_start s (started i n))) (fails_there r a s n) f)
     c.requires.meant c.requires.image
-    c.requires.inputs c.requires.rule c.requires.always c.in-Bad.is c.in_ok-seen.ensures.answers)
+    c.requires.inputs c.requires.rule c.requires.always c.requires.section c.in-Bad.is c.in_ok-seen.ensures.answers)
     (c.in_ok-choices_and_turns-in-Bad.ensures.choices
-    ∙ ap (choices_from_start None (started c.args.image.now c.args.inputs.now)) c.deref.ensures.value)
+    ∙ ap (choices_from_start c.args.question.never_both (started c.args.image.now c.args.inputs.now)) c.deref.ensures.value)
     (ap length (sym c.deref.ensures.value) ∙ c.in_ok-choices_and_turns-in-Bad.ensures.turns)

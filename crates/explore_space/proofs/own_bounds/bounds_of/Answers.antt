@@ -1,11 +1,11 @@
-use Rattle.std.proofs.Common.{◌+◌, length, refl, ap, sym, ◌∙◌, subst, arith, None}
+use Rattle.std.proofs.Common.{◌+◌, length, refl, ap, sym, ◌∙◌, subst, arith}
 use Rattle.std.proofs.lemmas.Option.{slice_get_read}
 use Rattle.std.proofs.lemmas.List.{length-append}
 use Rattle.machine.specs.Start.{started}
 use Rattle.machine.proofs.RunLaws.{length-started}
 use Rattle.explore_laws.specs.Places.{Place, place_begun}
 use Rattle.explore_bounds.specs.Steps.{AreLedTo, TellsBound}
-use Rattle.explore_space.specs.Begun.{settled_start}
+use Rattle.explore_space.specs.Begun.{first_steps, settled_start}
 use Rattle.explore_space.specs.Bounds.{later_by}
 use Rattle.explore_space.specs.Places.{IsKey, place_of_key}
 use Rattle.explore_space.proofs.AheadLemmas.{all_run}
@@ -20,8 +20,8 @@ pub own_bound-requires-clause-some : goal.own_bound-requires-clause-some
 own_bound-requires-clause-some g c =
     let e = c.args.explorer.now in
     some_rows (IsKey e.known.image.now (length e.inputs.now) e.known.harts.parts.items e.known.shareds.parts.items)
-    (place_of_key e.known.image.now (length e.inputs.now) e.known.harts.parts.items e.known.shareds.parts.items)
-    (place_begun None (settled_start None (started e.known.image.now e.inputs.now))) c.args.meant.now c.args.seen.now.keys c.args.seen.now.links.items
+    (place_of_key e.known.code.section e.known.image.now (length e.inputs.now) e.known.harts.parts.items e.known.shareds.parts.items)
+    (place_begun e.known.code.section (settled_start e.known.code.section (started e.known.image.now e.inputs.now))) c.args.meant.now c.args.seen.now.keys c.args.seen.now.links.items
     c.args.seen.now.rows c.requires.seen c.requires.edges
 
 pub own_bound-requires-clause-rows : goal.own_bound-requires-clause-rows
@@ -43,9 +43,9 @@ pub harts-preserved : goal.harts-preserved
 harts-preserved g c =
     let e = c.args.explorer.now in
     let keys = IsKey e.known.image.now (length e.inputs.now) e.known.harts.parts.items e.known.shareds.parts.items in
-    let place = place_of_key e.known.image.now (length e.inputs.now) e.known.harts.parts.items e.known.shareds.parts.items in
+    let place = place_of_key e.known.code.section e.known.image.now (length e.inputs.now) e.known.harts.parts.items e.known.shareds.parts.items in
     let start = started c.args.image.now c.args.inputs.now in
-    let first = settled_start None start in
+    let first = settled_start e.known.code.section start in
     let hart = c.harts.hart in
     let low = c.harts-test.true in
     let end = c.harts-hart-end.ensures.harts in
@@ -55,14 +55,14 @@ harts-preserved g c =
     let led = subst (λ (p : Place). AreLedTo c.args.meant.now p place c.args.seen.now.keys) c.requires.first
     (led_from keys place _ c.args.meant.now c.args.seen.now.keys c.args.seen.now.links.items c.requires.seen c.requires.reaches) in
     let tells : TellsBound c.args.meant.now first hart c.in_ok-bound.bound
-    = c.in_ok-bound.ensures None first place c.args.seen.now.keys c.requires.meant.plain (c.requires.meant.each hart (omega (arith, low, end)))
+    = c.in_ok-bound.ensures e.known.code.section first place c.args.seen.now.keys c.requires.meant.plain (c.requires.meant.each hart (omega (arith, low, end)))
     led c.requires.edges c.in_ok-steps.ensures in
     record {
       count = ap length c.in_ok-push.ensures.items ∙ length-append c.harts.bounds.items _ ∙ ap (λ n. n + 1) c.harts.invariant.count;
       told = told_more c.args.meant.now start c.harts.bounds.items c.push.new.self.items hart c.in_ok-later.later c.harts.invariant.count
           (subst (TellsBound c.args.meant.now start hart)
-          (ap (later_by c.in_ok-bound.bound) (sym (c.in_ok-begun.ensures.are hart c.index.result.now begun_there)) ∙ sym c.in_ok-later.ensures)
-          (told_later None c.args.meant.now start (λ h l. c.requires.meant.each h (omega (arith, l, len))) hart c.in_ok-bound.bound
+          (ap (later_by c.in_ok-bound.bound) (sym (c.in_ok-begun.ensures.are hart c.index.result.now begun_there ∙ ap (λ x. first_steps x start hart) c.section.ensures)) ∙ sym c.in_ok-later.ensures)
+          (told_later e.known.code.section c.args.meant.now start (λ h l. c.requires.meant.each h (omega (arith, l, len))) hart c.in_ok-bound.bound
           (omega (arith, low, end, len)) (all_run c.args.image.now c.args.inputs.now) tells))
           c.harts.invariant.told c.in_ok-push.ensures.items;
     }

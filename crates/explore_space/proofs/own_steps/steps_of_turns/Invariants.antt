@@ -7,6 +7,6 @@ use Rattle.explore_space.proofs.own_steps.steps_of_turns.Given as goal
 abbrev pub invariant-keys : goal.invariant-keys
 invariant-keys g l = record {
   count : length l.steps ≡ l.number;
-  rows : AreRows (place_of_key l.explorer.known.image.now (length l.explorer.inputs.now) l.explorer.known.harts.parts.items
+  rows : AreRows (place_of_key l.explorer.known.code.section l.explorer.known.image.now (length l.explorer.inputs.now) l.explorer.known.harts.parts.items
       l.explorer.known.shareds.parts.items) l.turns l.keys l.steps;
 }

@@ -11,7 +11,7 @@ turns-preserved g c =
     record {
       count = ap length c.in_ok-push.ensures.items ∙ length-append c.turns.row.items _ ∙ ap (λ n. n + 1) c.turns.invariant.count;
       steps = steps_more c.args.turns.now
-          (place_of_key e.known.image.now (length e.inputs.now) e.known.harts.parts.items e.known.shareds.parts.items c.args.key.now)
+          (place_of_key e.known.code.section e.known.image.now (length e.inputs.now) e.known.harts.parts.items e.known.shareds.parts.items c.args.key.now)
           c.turns.row.items c.push.new.self.items c.turns.turn-index _ _ c.turns.invariant.count
           (slice_get-get_or c.args.turns.now c.turns.turn-index _ c.turns-test.true) c.in_ok-steps_in.ensures c.turns.invariant.steps
           c.in_ok-push.ensures.items;

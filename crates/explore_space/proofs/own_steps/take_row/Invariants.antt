@@ -7,6 +7,6 @@ use Rattle.explore_space.proofs.own_steps.take_row.Given as goal
 abbrev pub invariant-turns : goal.invariant-turns
 invariant-turns g l = record {
   count : length l.row.items ≡ l.turn-index;
-  steps : AreSteps l.turns (place_of_key l.explorer.known.image.now (length l.explorer.inputs.now) l.explorer.known.harts.parts.items
+  steps : AreSteps l.turns (place_of_key l.explorer.known.code.section l.explorer.known.image.now (length l.explorer.inputs.now) l.explorer.known.harts.parts.items
       l.explorer.known.shareds.parts.items l.key) l.row.items;
 }

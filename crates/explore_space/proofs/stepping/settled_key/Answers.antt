@@ -1,4 +1,4 @@
-use Rattle.std.proofs.Common.{◌≡◌, ◌<◌, [], length, refl, ap, sym, subst, ◌∙◌, arith, None}
+use Rattle.std.proofs.Common.{◌≡◌, ◌<◌, [], length, refl, ap, sym, subst, ◌∙◌, arith}
 use Rattle.std.proofs.lemmas.List.{append-nil}
 use Rattle.std.proofs.lemmas.Option.{slice_get_read, get_or_from_slice_get}
 use Rattle.std.specs.List.{slice_index}
@@ -13,12 +13,12 @@ use Rattle.explore_space.proofs.stepping.settled_key.Goals as goal
 pub returns-clause-kept : goal.returns-clause-kept
 returns-clause-kept g c =
     kept c.args.image.now c.args.count c.args.harts.now.parts.items c.known_rest.new.harts.parts.items c.args.shareds.now c.args.shareds.now
-    c.in_ok-id.ensures.harts_go ([], sym (append-nil c.args.shareds.now)) (λ once. (c.in_ok-id.ensures.once once.0, once.1))
+    c.in_ok-id.ensures.harts_go ([], sym (append-nil c.args.shareds.now)) (λ once. (c.in_ok-id.ensures.once once.0, once.1)) c.args.code.now.section
 
 pub returns-in_err-id-clause-kept : goal.returns-in_err-id-clause-kept
 returns-in_err-id-clause-kept g c =
     kept c.args.image.now c.args.count c.args.harts.now.parts.items c.known_rest.new.harts.parts.items c.args.shareds.now c.args.shareds.now
-    c.in_err-id.ensures.harts_go ([], sym (append-nil c.args.shareds.now)) (λ once. (c.in_err-id.ensures.once once.0, once.1))
+    c.in_err-id.ensures.harts_go ([], sym (append-nil c.args.shareds.now)) (λ once. (c.in_err-id.ensures.once once.0, once.1)) c.args.code.now.section
 
 pub returns-clause-key : goal.returns-clause-key
 returns-clause-key g c =
@@ -29,11 +29,11 @@ returns-clause-key g c =
     let got = slice_get_read c.args.key.items (length c.args.key.items) c.args.number c.index.result.now refl inside c.index.ensures in
     let at : slice_index c.args.key.items c.args.number ≡ c.index.result.now
     = get_or_from_slice_get c.args.key.items c.args.number c.index.result.now 0 got in
-    settled_is_key_of c.args.image.now c.args.count c.args.harts.now.parts.items c.known_rest.new.harts.parts.items c.args.shareds.now
+    settled_is_key_of c.args.code.now.section c.args.image.now c.args.count c.args.harts.now.parts.items c.known_rest.new.harts.parts.items c.args.shareds.now
     c.in_ok-id.ensures.harts_go ([], sym (append-nil c.args.shareds.now)) c.args.key.items _ c.requires.is c.args.number c.in_ok-id.id
     low c.in_ok-id.ensures.there refl
     (c.in_ok-id.ensures.rests
-    ∙ ap (λ i. rested None (code_in (image_memory c.args.image.now)) at_once (hart_numbered c.args.harts.now.parts.items i)) (sym at))
+    ∙ ap (λ i. rested c.args.code.now.section (code_in (image_memory c.args.image.now)) at_once (hart_numbered c.args.harts.now.parts.items i)) (sym at))
     (c.in_ok-id.ensures.once once.0, once.1)
 
 pub known_rest-requires-clause-there : goal.known_rest-requires-clause-there

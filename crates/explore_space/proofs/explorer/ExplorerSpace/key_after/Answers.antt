@@ -2,4 +2,4 @@ use Rattle.explore_space.proofs.DifferLemmas.{keys_differ}
 use Rattle.explore_space.proofs.explorer.ExplorerSpace.key_after.Goals as goal
 
 pub returns-clause-differ : goal.returns-clause-differ
-returns-clause-differ g c = keys_differ _ _ _ _
+returns-clause-differ g c = keys_differ _ _ _ _ _
