@@ -3,7 +3,7 @@
 
 pub use cmd_json::Form;
 pub use engine::explore_engine;
-pub use explore_space::{Always, OwnBounds, Question};
+pub use explore_space::{Always, OwnBounds, Question, Section};
 pub use finding::{Explored, Finding};
 pub use objects::undecided_object;
 pub use refusals::read_refusals;

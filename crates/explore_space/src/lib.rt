@@ -2,6 +2,7 @@
 #![tactic(auto)]
 
 pub use explore_bounds::Bound;
+pub use explore_laws::Section;
 pub use explorer::Explorer;
 pub use exploring::{Answer, Failing, Held, explore};
 pub use meant::ScRefusals;

@@ -1,6 +1,7 @@
 //! What is asked of every schedule.
 use crate::meant::ScRefusals;
 use crate::own_bounds::OwnBounds;
+use explore_laws::Section;
 use outcome::Expect;
 use property_judge::Comparison;
 
@@ -23,6 +24,8 @@ pub struct Question {
     pub expect: Expect,
     /// What a word of memory must be, if that is asked.
     pub always: Option<Always>,
+    /// The section of code in which no two harts may ever stand at once, if that is asked.
+    pub never_both: Option<Section>,
     /// Whether the bounds on harts' own steps are told where no schedule fails or hangs.
     pub bounds: OwnBounds,
     /// Whether store-conditionals are refused too that could succeed.

@@ -38,6 +38,7 @@ fn question_of(asked: AskedEvery) -> Option<Question>
     Some(Question {
         expect,
         always: None,
+        never_both: None,
         bounds,
         refusals,
         most: asked.most as usize,

@@ -104,6 +104,7 @@ fn is_found(alloc: Global, row: &Row) -> Option<bool> {
             exit: Exit::May,
         },
         always: Some(row.always),
+        never_both: None,
         bounds: OwnBounds::NotAsked,
         refusals: ScRefusals::Never,
         most: 10_000,

@@ -50,6 +50,7 @@ fn has_bounds(alloc: Global, row: &Row) -> Option<bool> {
     let question = Question {
         expect,
         always: None,
+        never_both: None,
         bounds: OwnBounds::Asked,
         refusals: row.refusals,
         most: 100_000,

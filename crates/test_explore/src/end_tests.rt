@@ -51,6 +51,7 @@ fn has_ends(alloc: Global, row: &Row) -> Option<bool> {
     let question = Question {
         expect,
         always: None,
+        never_both: None,
         bounds: OwnBounds::NotAsked,
         refusals: ScRefusals::Also,
         most: 100_000,

@@ -64,6 +64,7 @@ fn answer_of(alloc: Global, row: &Row, exit: Exit) -> Option<Answer<Global>> {
     let question = Question {
         expect,
         always: None,
+        never_both: None,
         bounds: OwnBounds::NotAsked,
         refusals: ScRefusals::Also,
         most: 10_000,

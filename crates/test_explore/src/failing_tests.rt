@@ -88,6 +88,7 @@ fn is_found(alloc: Global, row: &Row) -> Option<bool> {
     let question = Question {
         expect,
         always: None,
+        never_both: None,
         bounds: OwnBounds::NotAsked,
         refusals: ScRefusals::Also,
         most: 10_000,
@@ -133,6 +134,7 @@ fn breaks_consensus(alloc: Global, inputs: &[u32]) -> Option<bool> {
     let question = Question {
         expect,
         always: None,
+        never_both: None,
         bounds: OwnBounds::NotAsked,
         refusals: ScRefusals::Never,
         most: 100_000,

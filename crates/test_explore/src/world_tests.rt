@@ -50,6 +50,7 @@ fn places_of(alloc: Global, row: &Row, most: usize, heard: &mut Heard) -> Option
     let question = Question {
         expect,
         always: None,
+        never_both: None,
         bounds: OwnBounds::NotAsked,
         refusals: row.refusals,
         most,

@@ -166,6 +166,7 @@ fn every(expect: Expect, most: usize) -> Question {
     Question {
         expect,
         always: None,
+        never_both: None,
         bounds: OwnBounds::Asked,
         refusals: ScRefusals::Also,
         most,
