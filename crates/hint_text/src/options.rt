@@ -135,6 +135,7 @@ pub(crate) const COMMANDS: [Row; 14] = [
             "--refusals",
             "--worlds",
             "--must-exit",
+            "--never-both",
             "--always",
             "--bounds",
             "--json",
