@@ -32,7 +32,7 @@ RUNS = [
     ["--seed", "3", "--steps", "200", "--always", "0x10000 != 0", "--never-both", "0x10004..0x10010"],
     ["--list", "", "--always", "0x10000 <u 5"],
 ]
-EXPLORATIONS = [[], ["--bounds"], ["--must-exit", "--rule", "swap", "--bounds"]]
+EXPLORATIONS = [[], ["--bounds"], ["--must-exit", "--rule", "swap", "--bounds"], ["--never-both", "0x10004..0x10010"]]
 CAMPAIGNS = [
     [],
     ["--failures", "--must-exit", "--rule", "swap"],

@@ -26,6 +26,21 @@ HINT = (
     "    rvcons shrink a.elf --inputs 2,2 --seed 5 --steps 300 --always 'counter < 2'\n"
 )
 
+# What is asked of every schedule of amo.s, the turns of the list that fails, and what is told of it.
+EXPLORED = [
+    (["--never-both", "wait..end"], 4,
+     "after 16 choices: hart 0 at 00010020, wait; hart 1 at 00010020, wait; goto 16 in rvcons debug goes there\n"),
+    (["--always", "counter < 2"], 2,
+     "after 11 choices: the word is 2, 0x00000002; goto 11 in rvcons debug goes there\n"),
+    (["--always", "counter < 2", "--never-both", "wait..end"], 2,
+     "after 11 choices: the word is 2, 0x00000002; goto 11 in rvcons debug goes there\n"),
+]  # fmt: skip
+LIST = (
+    "these choices fail, in {} turns, each a choice and the local steps behind it; no list of fewer choices fails.\n"
+    "To look into it, write >failing.choices behind the command, and then\n"
+    "    rvcons debug a.elf --inputs 2,2 --choices failing.choices\n"
+)
+
 # A run that hangs, and what is told of it: hart 1 marks that it waits, by its step behind 0*30, once
 # hart 0 has handed the lock over.
 HANGING = ["run", "h.elf", "--inputs", "1,1", "--list", "0*12 1*13 0*30 1*30", "--hangs"]
@@ -50,6 +65,10 @@ def properties():
         check(f"a property {asked} at a terminal", at_terminal(words), told)
     check("a campaign's property through a pipe", through_pipe(CAMPAIGN)[0], "")
     check("a campaign's property at a terminal", at_terminal(CAMPAIGN)[-len(HINT):], HINT)
+    for asked, turns, told in EXPLORED:
+        words = ["explore", "a.elf", "--inputs", "2,2", *asked]
+        check(f"every schedule {asked} through a pipe", through_pipe(words)[0], "")
+        check(f"every schedule {asked} at a terminal", at_terminal(words), LIST.format(turns) + told)
     subprocess.run([PROGRAM, "asm", "--out", "h.elf", f"{TOP}/examples/bugs/mcs_hangs.s"], check=True, timeout=ENDLESS)
     check("a hang through a pipe", through_pipe(HANGING)[0], "")
     check("a hang at a terminal", at_terminal(HANGING), TOLD)

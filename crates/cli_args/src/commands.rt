@@ -248,6 +248,7 @@ static ROW_OF_EXPLORE: CommandRow = CommandRow {
         Argument::Optional("refusals", SC_REFUSALS),
         Argument::Optional("worlds", WORLDS),
         Argument::Flag("must-exit", WAYS_OUT),
+        Argument::Optional("never-both", NEVER_BOTH),
         Argument::Optional("always", ALWAYS),
         Argument::Flag("bounds", BOUNDS),
         Argument::Flag("json", JSON),

@@ -3,19 +3,20 @@
 ghost use Rattle.std.specs.Prelude.{◌-◌, ◌<◌, ◌^◌};
 
 use crate::exiting::exit_of;
-use crate::properties::{PropertyTexts, read_properties};
+use crate::properties::{PropertyTexts, listed, read_properties};
 use byte_io::{MemorySource, Progress, Source, Status, WriterSink};
 use cli_orders::ExploreOrder;
 use cli_report::{
     Audience, EndsTold, Explained, RunFiles, WIPE, bad_line, explain_ends, inputs_said, open_one,
-    read_again, rule_said, say_why, wipe_line,
+    read_again, rule_said, say_why, show, wipe_line,
 };
 use cli_values::{WORLDS, read_worlds};
-use cmd_campaign::Expect;
+use cmd_campaign::{Expect, Properties};
 use cmd_explore::{
-    Always, Explored, Finding, Form, OwnBounds, Question, explore_engine, read_refusals,
+    Always, Explored, Finding, Form, OwnBounds, Question, Section, explore_engine, read_refusals,
     undecided_object,
 };
+use hint_breaks::breaks_of_run;
 use object_library::Kind;
 use program_open::{CommandFault, ProgramForm, write_text};
 use property_judge::Property;
@@ -82,7 +83,7 @@ impl<'a, R: Eprint + Clock> Progress for Line<'a, R> {
     }
 }
 
-// What an order asks but for its word, or the status of an invalid line.
+// What an order asks but for its properties, or the status of an invalid line.
 fn read_question<R: Print + Eprint>(rt: &R, order: &ExploreOrder) -> Result<Question, Status> {
     let rule = rule_said(rt, order.rule)?;
     let Some(refusals) = read_refusals(order.refusals) else {
@@ -120,6 +121,14 @@ fn word_said(property: Option<Property>) -> Option<Always> {
     }
 }
 
+// The section of code that a property is of, if it is of one.
+fn section_said(property: Option<Property>) -> Option<Section> {
+    match property {
+        Some(Property::NeverBoth { from, to }) => Some(Section { from, to }),
+        Some(Property::Always { .. }) | None => None,
+    }
+}
+
 /// Decides whether some schedule of a program fails, and prints a list of choices that does. A
 /// person sees more of that list.
 pub fn obey_explore<R: Files + AllocGlobal + Print + Eprint + Clock>(
@@ -130,13 +139,15 @@ pub fn obey_explore<R: Files + AllocGlobal + Print + Eprint + Clock>(
     let question = read_question(rt, order)?;
     let inputs = inputs_said(rt, order.inputs)?;
     let mut program = open_one(rt, audience, order.file)?;
-    match order.always {
-        Some(_) => answer_judged(rt, audience, order, &inputs, question, &mut program),
-        None => answer(rt, audience, order, &inputs, question, &mut program),
+    if order.has_properties() {
+        answer_judged(rt, audience, order, &inputs, question, &mut program)
+    } else {
+        let none = Properties::NONE;
+        answer(rt, audience, order, &inputs, question, none, &mut program)
     }
 }
 
-// Reads the program, since the order's word may be named by its symbols, and answers.
+// Reads the program, since the order's properties may name its symbols, and answers.
 fn answer_judged<R: Files + AllocGlobal + Print + Eprint + Clock, P: Source>(
     rt: &R,
     audience: Audience,
@@ -150,18 +161,29 @@ fn answer_judged<R: Files + AllocGlobal + Print + Eprint + Clock, P: Source>(
     let texts = PropertyTexts::of_explore(order);
     let (bytes, properties) = read_properties(rt, audience, order.file, texts, inputs, program)?;
     let mut question = question;
+    question.never_both = section_said(properties.first);
     question.always = word_said(properties.second);
     let mut source = MemorySource::new(&bytes);
-    answer(rt, audience, order, inputs, question, &mut source)
+    answer(
+        rt,
+        audience,
+        order,
+        inputs,
+        question,
+        properties,
+        &mut source,
+    )
 }
 
-// Decides a question of a program, and prints the answer. A person sees the progress.
+// Decides a question of a program, and prints the answer. A person sees the progress, and where a
+// list breaks these properties, which are the question's.
 fn answer<R: Files + AllocGlobal + Print + Eprint + Clock, P: Source>(
     rt: &R,
     audience: Audience,
     order: &ExploreOrder,
     inputs: &[u32],
     question: Question,
+    properties: Properties,
     program: &mut P,
 ) -> Result<Status, Status>
     requires { P.failures program.old < 2 ^ 64 - 1 }
@@ -184,7 +206,10 @@ fn answer<R: Files + AllocGlobal + Print + Eprint + Clock, P: Source>(
         wipe_line(rt, audience);
     }
     match answer {
-        Ok(found) => tell(rt, audience, order, inputs, question.expect.rule, &found),
+        Ok(found) => {
+            let rule = question.expect.rule;
+            tell(rt, audience, order, inputs, rule, properties, &found)
+        }
         Err(CommandFault::Undecided(most)) => {
             Err(tell_undecided(rt, audience, order, inputs.len(), most))
         }
@@ -222,6 +247,7 @@ fn tell<R: Files + AllocGlobal + Print + Eprint>(
     order: &ExploreOrder,
     inputs: &[u32],
     rule: Option<Kind>,
+    properties: Properties,
     found: &Explored<Global>,
 ) -> Result<Status, Status> {
     let mut sink = WriterSink::new(io::writer(rt));
@@ -229,7 +255,7 @@ fn tell<R: Files + AllocGlobal + Print + Eprint>(
         return Err(tell_fault(rt, audience, order, inputs.len(), fault));
     }
     if audience.is_told() && !order.json {
-        let _ = explain_list(rt, order, inputs, rule, found);
+        let _ = explain_list(rt, order, inputs, rule, properties, found);
     }
     Ok(found.status)
 }
@@ -245,12 +271,13 @@ fn tell_fault<R: Files + AllocGlobal + Eprint>(
     say_why(rt, audience, RunFiles::of_program(order.file, harts), fault)
 }
 
-// Shows how long a failing list is, and explains how its run ends.
+// Shows how long a failing list is, explains how its run ends, and where it breaks these properties.
 fn explain_list<R: Files + AllocGlobal + Eprint>(
     rt: &R,
     order: &ExploreOrder,
     inputs: &[u32],
     rule: Option<Kind>,
+    properties: Properties,
     found: &Explored<Global>,
 ) -> Option<()> {
     let (does, turns) = match found.finding {
@@ -270,12 +297,6 @@ fn explain_list<R: Files + AllocGlobal + Eprint>(
             "From the world that they lead to no list of choices leads to one in which no hart runs."
         ).ok();
     }
-    if let Some(choices) = found.broken {
-        let always = order.always?;
-        eprintln!(rt;
-            "After {choices} of them '{always}' isn't so; goto {choices} in rvcons debug goes there."
-        ).ok()?;
-    }
     let program = read_again(rt, order.file)?;
     explain_ends(
         rt,
@@ -287,5 +308,9 @@ fn explain_list<R: Files + AllocGlobal + Eprint>(
             ends: EndsTold::Faults,
             rule,
         },
-    )
+    )?;
+    let properties = listed(rt.alloc(), properties).ok()?;
+    let text = breaks_of_run(rt.alloc(), &program, inputs, &found.text, &properties)?;
+    show(rt, &text);
+    Some(())
 }

@@ -9,8 +9,9 @@ use cmd_campaign::Properties;
 use elf_read::symbols;
 use machine::Inputs;
 use program_open::{CommandFault, Input, ProgramForm, read_program};
+use property_judge::Property;
 use property_text::{PropertyFault, read_always, read_never_both};
-use std::alloc::Global;
+use std::alloc::{AllocError, Global};
 use std::rt::Files;
 
 /// The properties of an order, as they are written.
@@ -29,10 +30,10 @@ impl<'a> PropertyTexts<'a> {
         }
     }
 
-    /// That of an exploration.
+    /// Those of an exploration.
     pub(crate) fn of_explore(order: &ExploreOrder<'a>) -> PropertyTexts<'a> {
         PropertyTexts {
-            never_both: None,
+            never_both: order.never_both,
             always: order.always,
         }
     }
@@ -123,6 +124,18 @@ fn property_said<P: Copy>(
             Err(Status::BadLine)
         }
     }
+}
+
+/// Properties as a list, in order.
+pub(crate) fn listed(alloc: Global, properties: Properties) -> Result<Vec<Property>, AllocError> {
+    let mut list = Vec::new(alloc);
+    if let Some(property) = properties.first {
+        list.push(property)?;
+    }
+    if let Some(property) = properties.second {
+        list.push(property)?;
+    }
+    Ok(list)
 }
 
 /// Shows the options of a campaign's properties behind a command.

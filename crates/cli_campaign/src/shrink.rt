@@ -3,17 +3,16 @@
 ghost use Rattle.std.specs.Prelude.{◌-◌, ◌<◌, ◌^◌};
 
 use crate::exiting::exit_of;
-use crate::properties::{PropertyTexts, read_properties};
+use crate::properties::{PropertyTexts, listed, read_properties};
 use byte_io::{MemorySource, Source, Status, WriterSink};
 use cli_orders::ShrinkOrder;
 use cli_report::{
     Audience, RunChoices, RunFiles, WIPE, inputs_said, open_run, out_of_memory, rule_said, say_why,
     show,
 };
-use cmd_campaign::{Expect, Properties};
+use cmd_campaign::Expect;
 use cmd_shrink::{ChoicesLeft, Property, shrink_engine};
 use program_open::{CommandFault, ProgramForm, deliver};
-use std::alloc::{AllocError, Global};
 use std::io;
 use std::rt::Files;
 
@@ -106,18 +105,6 @@ fn print_judged<R: Files + AllocGlobal + Print + Eprint, P: Source, C: Source>(
     };
     let mut program = MemorySource::new(&bytes);
     print_shrunk(rt, audience, asked, &mut program, choices)
-}
-
-// Properties as a list, in order.
-fn listed(alloc: Global, properties: Properties) -> Result<Vec<Property>, AllocError> {
-    let mut list = Vec::new(alloc);
-    if let Some(property) = properties.first {
-        list.push(property)?;
-    }
-    if let Some(property) = properties.second {
-        list.push(property)?;
-    }
-    Ok(list)
 }
 
 // Prints a minimal choice text.

@@ -3,8 +3,8 @@
 use clap::ArgMatches;
 use cli_args::{is_set, text_of};
 
-/// `explore FILE --inputs L [--rule K] [--refusals never] [--worlds N] [--must-exit] [--always P]
-/// [--bounds] [--json]`: decides whether some schedule fails.
+/// `explore FILE --inputs L [--rule K] [--refusals never] [--worlds N] [--must-exit] [--never-both R]
+/// [--always P] [--bounds] [--json]`: decides whether some schedule fails.
 #[derive(Drop)]
 pub struct ExploreOrder<'a> {
     /// The program's path.
@@ -19,12 +19,21 @@ pub struct ExploreOrder<'a> {
     pub worlds: Option<&'a str>,
     /// Whether each world must have a way out.
     pub must_exit: bool,
+    /// The range of addresses in which no two harts may ever be at once.
+    pub never_both: Option<&'a str>,
     /// What a word must be at the start and after each choice.
     pub always: Option<&'a str>,
     /// Whether the bounds on harts' own steps are printed.
     pub bounds: bool,
     /// Whether an object of JSON is printed in place of lines.
     pub json: bool,
+}
+
+impl<'a> ExploreOrder<'a> {
+    /// Whether properties of one's own are judged.
+    pub fn has_properties(&self) -> bool {
+        self.never_both.is_some() || self.always.is_some()
+    }
 }
 
 /// The order in clap's matches.
@@ -36,6 +45,7 @@ pub(crate) fn explore_order<'a>(matches: &ArgMatches<'a>) -> Option<ExploreOrder
         refusals: text_of(matches, "refusals"),
         worlds: text_of(matches, "worlds"),
         must_exit: is_set(matches, "must-exit"),
+        never_both: text_of(matches, "never-both"),
         always: text_of(matches, "always"),
         bounds: is_set(matches, "bounds"),
         json: is_set(matches, "json"),

@@ -1,16 +1,16 @@
 //! Runs `run` with properties, where it decides whether its run hangs, or for an object of JSON.
 
-use crate::breaks::show_breaks;
 use crate::hangs::show_hang;
 use crate::said::properties_said;
 use byte_io::{Status, WriterSink};
 use cli_args::RunOrder;
 use cli_report::{
     Audience, HANGS_OR_MUST_EXIT, RunChoices, RunFiles, bad_line, form_said, inputs_said, open_run,
-    say_why,
+    say_why, show,
 };
 use cli_run::{expect_said, explain_failure, has_failed, obey_run};
 use cmd_properties::{Form, Hangs, RunStatus, judged_text};
+use hint_breaks::breaks_advice;
 use program_named::open_named;
 use program_open::{CommandFault, write_text};
 use std::io;
@@ -84,7 +84,8 @@ fn obey_judged<R: Files + AllocGlobal + Print + Eprint>(
                 match status {
                     RunStatus::Of(code) if has_failed(code) => {
                         let _ = explain_failure(rt, order, &inputs, choices, expect.rule);
-                        show_breaks(rt, &run, &judged);
+                        let text = breaks_advice(rt.alloc(), &run.opened, &run.symbols, &judged);
+                        show(rt, text.as_deref().unwrap_or(""));
                     }
                     RunStatus::Of(_) => {}
                     RunStatus::Hangs => show_hang(rt, &run),

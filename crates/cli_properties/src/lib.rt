@@ -4,7 +4,6 @@
 pub use cmd_properties::RunStatus;
 pub use judged::obey_any_run;
 
-mod breaks;
 mod hangs;
 mod judged;
 mod said;

@@ -139,6 +139,7 @@ pub(crate) const COMMANDS: [Row; 14] = [
             "--refusals",
             "--worlds",
             "--must-exit",
+            "--never-both",
             "--always",
             "--bounds",
             "--json",

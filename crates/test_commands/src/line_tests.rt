@@ -150,17 +150,19 @@ static LINES: [(&str, &str); 64] = [
 
 // The same, of explore and of those behind it.
 #[rattlefmt::skip]
-static FURTHER_LINES: [(&str, &str); 34] = [
+static FURTHER_LINES: [(&str, &str); 35] = [
     ("rvcons explore p --inputs 7,9", "explore FILE=p inputs=7,9"),
     ("rvcons explore p --inputs 7,9 --rule k", "explore FILE=p inputs=7,9 rule=k"),
     ("rvcons explore p --inputs 7,9 --refusals r", "explore FILE=p inputs=7,9 refusals=r"),
     ("rvcons explore p --inputs 7,9 --worlds 5", "explore FILE=p inputs=7,9 worlds=5"),
     ("rvcons explore p --inputs 7,9 --must-exit", "explore FILE=p inputs=7,9 must-exit=yes"),
+    ("rvcons explore p --inputs 7,9 --never-both a..b",
+        "explore FILE=p inputs=7,9 never-both=a..b"),
     ("rvcons explore p --inputs 7,9 --always x", "explore FILE=p inputs=7,9 always=x"),
     ("rvcons explore p --inputs 7,9 --bounds", "explore FILE=p inputs=7,9 bounds=yes"),
     ("rvcons explore p --json --inputs 7,9", "explore FILE=p inputs=7,9 json=yes"),
-    ("rvcons explore --bounds --json --worlds 5 --refusals r --rule k --must-exit --always x --inputs 7 p",
-        "explore FILE=p inputs=7 rule=k refusals=r worlds=5 must-exit=yes always=x bounds=yes json=yes"),
+    ("rvcons explore --bounds --json --worlds 5 --refusals r --rule k --must-exit --always x --never-both a..b --inputs 7 p",
+        "explore FILE=p inputs=7 rule=k refusals=r worlds=5 must-exit=yes never-both=a..b always=x bounds=yes json=yes"),
     ("rvcons schedule --harts 2 --steps 3", "schedule harts=2 steps=3"),
     ("rvcons schedule --harts 2 --steps 3 --seed 5", "schedule harts=2 steps=3 seed=5"),
     ("rvcons schedule --harts 2 --steps 3 --turns", "schedule harts=2 steps=3 turns=yes"),

@@ -190,6 +190,7 @@ fn explore_text(alloc: Global, order: &ExploreOrder) -> Result<String, AllocErro
         ("refusals", order.refusals),
         ("worlds", order.worlds),
         ("must-exit", flag(order.must_exit)),
+        ("never-both", order.never_both),
         ("always", order.always),
         ("bounds", flag(order.bounds)),
         ("json", flag(order.json)),
