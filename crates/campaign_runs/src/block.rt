@@ -8,6 +8,7 @@ ghost use Rattle.campaign_runs.specs.Runs.{seed_ending, ending_from, endings_of}
 use crate::campaign::Campaign;
 use crate::jobs::Jobs;
 use crate::seed_run::{SeedEnd, run_seed};
+use crate::seed_runs::{FromStart, SeedRuns};
 use crate::seeds::Block;
 use image::Image;
 use machine::{Inputs, Machine};
@@ -32,26 +33,27 @@ pub(crate) fn run_block<A: Allocator + Copy + Send + Sync, B: Allocator + Sync>(
         ≡ endings_of campaign image.now inputs.now (range_with_len block.first block.count)) }
 {
     let start: Machine<FlatStore<A>, A> = Machine::start(alloc, image, inputs)?;
-    let ends = run_each(rt, jobs, alloc, &start, inputs, campaign, block)?;
+    let runs = FromStart {
+        start: &start,
+        inputs,
+        campaign,
+    };
+    let ends = run_each(rt, jobs, alloc, &runs, block)?;
     Ok(ends)
 }
 
-// Runs seeds, each on a copy of a machine. Each thread takes a piece, so no more begin than there
-// are jobs.
-fn run_each<A: Allocator + Copy + Send + Sync>(
+// Runs seeds. Each thread takes a piece, so no more begin than there are jobs.
+fn run_each<S: SeedRuns<A> + Sync, A: Allocator + Copy + Send + Sync>(
     rt: &(impl Threads + Sync),
     jobs: Jobs,
     alloc: A,
-    start: &Machine<FlatStore<A>, A>,
-    inputs: &Inputs,
-    campaign: Campaign,
+    runs: &S,
     block: Block,
 ) -> Result<Vec<SeedEnd<A>, A>, AllocError>
-    requires there { length (state start.now).harts ≡ length inputs.now }
+    requires ready { S.IsReady runs.now }
     requires fits { block.first + block.count ≤ 2 ^ 64 }
     ensures { IfOk result (λ ends. map seed_ending ends.items
-        ≡ map (ending_from (state start.now) campaign inputs.now)
-        (range_with_len block.first block.count)) }
+        ≡ map (S.endings runs.now) (range_with_len block.first block.count)) }
 {
     let first = block.first;
     let ends: Result<Vec<SeedEnd<A>, A>, AllocError> = (0..block.count)
@@ -59,10 +61,9 @@ fn run_each<A: Allocator + Copy + Send + Sync>(
         .with_min_len(jobs.least_piece(block.count))
         .map(
             |place: u64| -> Result<SeedEnd<A>, AllocError>
-                requires { (length (state start.now).harts ≡ length inputs.now) × (first + place < 2 ^ 64) }
-                ensures { IfOk result (λ end. seed_ending end
-                    ≡ ending_from (state start.entry.now) campaign inputs.entry.now (first + place)) }
-            { run_seed(alloc, start, inputs, campaign, first + place) },
+                requires { S.IsReady runs.now × (first + place < 2 ^ 64) }
+                ensures { IfOk result (λ end. seed_ending end ≡ S.endings runs.entry.now (first + place)) }
+            { runs.run(alloc, first + place) },
         )
         .collect(rt, alloc)?;
     ends

@@ -26,5 +26,6 @@ mod members;
 mod properties;
 mod runner;
 mod seed_run;
+mod seed_runs;
 mod seeds;
 mod tally;
