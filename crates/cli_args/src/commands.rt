@@ -5,8 +5,8 @@ use crate::help::{
     ALWAYS, BANKED, BOUNDS, BROKEN_WORD, BUDGET, BY_CAUSE, CHOICES_OF, COUNT, DRAW,
     DRAW_OF_SCHEDULE, FILE, FIRST, HANGS, HANGS_OF_RUN, HANGS_OF_RUNS, HEX, HISTORY, INPUTS,
     INPUTS_OF_SCHEDULE, JOBS, JSON, JSON_LINES, MUST_EXIT, NEVER_BOTH, OUTCOMES, PREEMPTIONS,
-    REFUSALS, REFUSE, RULE, SC_REFUSALS, SHARED_RANGE, STEPS_OF_CAMPAIGN, SUMMARY, UNTIL_FAILURE,
-    WAYS_OUT, WITHIN, WORLDS, WRITTEN,
+    REFUSALS, REFUSE, RULE, SC_REFUSALS, SHARED_RANGE, STEPS_OF_CAMPAIGN, SUMMARY, TOTAL,
+    UNTIL_FAILURE, WAYS_OUT, WITHIN, WORLDS, WRITTEN,
 };
 
 /// Which options name the choices of a command's run.
@@ -159,6 +159,7 @@ static ROW_OF_THREADS: CommandRow = CommandRow {
         Argument::Needed("FILE", FILE),
         Argument::NeededOption("inputs", INPUTS),
         Argument::NeededOption("budget", BUDGET),
+        Argument::Optional("total", TOTAL),
         Argument::Optional("refuse", REFUSE),
         Argument::Optional("history", WRITTEN),
         Argument::Optional("rule", RULE),

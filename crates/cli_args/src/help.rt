@@ -157,6 +157,10 @@ pub(crate) const INPUTS_OF_SCHEDULE: &str =
 /// Of `--budget`.
 pub(crate) const BUDGET: &str = "how many steps each hart may take, below 2^32";
 
+/// Of `--total`.
+pub(crate) const TOTAL: &str =
+    "how many steps all harts may take together, below 2^32: when they are taken, each hart ends";
+
 /// Of `--refuse`.
 pub(crate) const REFUSE: &str =
     "which store-conditionals are refused: pairs of a hart and the number of its step from 0, as 0:7,1:3";

@@ -12,9 +12,9 @@ pub enum Locks {
     Banks,
 }
 
-/// `threads FILE --inputs L --budget N [--refuse P] [--history OUT] [--rule K] [--must-exit]
-/// [--banked]`: runs each hart in a thread of its own, writes the history of the run, and prints each
-/// hart's end and, with a rule, its verdict.
+/// `threads FILE --inputs L --budget N [--total M] [--refuse P] [--history OUT] [--rule K]
+/// [--must-exit] [--banked]`: runs each hart in a thread of its own, writes the history of the run,
+/// and prints each hart's end and, with a rule, its verdict.
 #[derive(Drop)]
 pub struct ThreadsOrder<'a> {
     /// The program's path.
@@ -23,6 +23,8 @@ pub struct ThreadsOrder<'a> {
     pub inputs: &'a str,
     /// The greatest number of choices of each hart.
     pub budget: &'a str,
+    /// The greatest number of choices of all harts together.
+    pub total: Option<&'a str>,
     /// The pairs of harts and their choices whose store-conditionals are refused.
     pub refuse: Option<&'a str>,
     /// The path of the history to write.
@@ -50,6 +52,7 @@ pub(crate) fn threads_order<'a>(matches: &ArgMatches<'a>) -> Option<ThreadsOrder
         file: text_of(matches, "FILE")?,
         inputs: text_of(matches, "inputs")?,
         budget: text_of(matches, "budget")?,
+        total: text_of(matches, "total"),
         refuse: text_of(matches, "refuse"),
         history: text_of(matches, "history"),
         rule: text_of(matches, "rule"),

@@ -9,9 +9,9 @@ use byte_io::{Source, Status, WriterSink};
 use cli_args::{LineFault, read_inputs, read_number};
 use cli_orders::{Locks, ThreadsOrder, read_plan};
 use cli_report::{
-    Audience, EndsTold, Explained, OutputFault, OutputFile, RunFiles, TEXT_MODE, cannot_write,
-    is_same_file, open_one, out_of_memory, read_again, read_rule, refuse, say, say_why, show,
-    would_overwrite,
+    Audience, EndsTold, Explained, OutputFault, OutputFile, RunFiles, TEXT_MODE, bad_line,
+    cannot_write, is_same_file, open_one, out_of_memory, read_again, read_rule, refuse, say,
+    say_why, show, would_overwrite,
 };
 use cmd_threads::{HistoryUse, ThreadsAnswer, ThreadsTask, banked_engine, threads_engine};
 use outcome::Expect;
@@ -23,6 +23,18 @@ use std::rt::Files;
 use std::sync::Wait;
 use std::thread::Threads;
 use thread_gate::Gate;
+
+// Why `--total` isn't taken beside `--banked`.
+const TOTAL_OR_BANKED: &str =
+    "--total counts the steps of all harts under one lock, and --banked has no such lock: they don't go together";
+
+// Parses the total of all harts, if there is one.
+fn read_total(order: &ThreadsOrder) -> Result<Option<u32>, LineFault> {
+    match order.total {
+        Some(text) => Ok(Some(read_number(text, u64::from(u32::MAX))? as u32)),
+        None => Ok(None),
+    }
+}
 
 // Parses the order's texts.
 fn read_task(alloc: Global, order: &ThreadsOrder) -> Result<ThreadsTask<Global>, LineFault> {
@@ -54,11 +66,12 @@ fn use_of_history(audience: Audience, order: &ThreadsOrder) -> HistoryUse {
     }
 }
 
-// Runs a task with the ordered kind of locks.
+// Runs a task with the ordered kind of locks. Over banks there is no total.
 fn run_task<P: Source, G: Gate + Sync, R: AllocGlobal + Threads + Wait + Sync>(
     rt: &R,
     locks: Locks,
     task: ThreadsTask<Global>,
+    total: Option<u32>,
     history: HistoryUse,
     program: &mut P,
     gate: &G,
@@ -66,7 +79,7 @@ fn run_task<P: Source, G: Gate + Sync, R: AllocGlobal + Threads + Wait + Sync>(
     requires { P.failures program.old < 2 ^ 64 - 1 }
 {
     match locks {
-        Locks::One => threads_engine(rt, rt.alloc(), task, program, gate),
+        Locks::One => threads_engine(rt, rt.alloc(), task, total, program, gate),
         Locks::Banks => banked_engine(rt, rt.alloc(), task, history, program, gate),
     }
 }
@@ -82,6 +95,13 @@ pub fn obey_threads<R: Files + AllocGlobal + Print + Eprint + Threads + Wait + S
         Ok(task) => task,
         Err(fault) => return Err(refuse(rt, &fault)),
     };
+    let total = match read_total(order) {
+        Ok(total) => total,
+        Err(fault) => return Err(refuse(rt, &fault)),
+    };
+    if total.is_some() && order.locks == Locks::Banks {
+        return Err(bad_line(rt, TOTAL_OR_BANKED));
+    }
     let mut program = open_one(rt, audience, order.file)?;
     if let Some(path) = order.history {
         if is_same_file(rt, order.file, path) {
@@ -90,7 +110,7 @@ pub fn obey_threads<R: Files + AllocGlobal + Print + Eprint + Threads + Wait + S
     }
     let gate = TellingGate::new(rt, audience);
     let history = use_of_history(audience, order);
-    let answer = run_task(rt, order.locks, task, history, &mut program, &gate);
+    let answer = run_task(rt, order.locks, task, total, history, &mut program, &gate);
     gate.wipe();
     match answer {
         Ok(answer) => write_answer(rt, audience, order, &answer),
@@ -169,7 +189,7 @@ fn explain_ends<R: Files + AllocGlobal + Eprint>(
     let inputs = read_inputs(rt.alloc(), order.inputs).ok()?;
     let program = read_again(rt, order.file)?;
     let explained = Explained {
-        ends: EndsTold::FaultsAndUsedUp,
+        ends: ends_told(order),
         rule: read_rule(order.rule).ok()?,
     };
     let text = history_advice(rt.alloc(), &program, inputs.as_slice(), history, explained)?;
@@ -177,7 +197,15 @@ fn explain_ends<R: Files + AllocGlobal + Eprint>(
     Some(())
 }
 
-// Whether a hart still runs, having used its budget up.
+// Which ends are explained.
+fn ends_told(order: &ThreadsOrder) -> EndsTold {
+    match order.total {
+        Some(_) => EndsTold::FaultsAndAllUsedUp,
+        None => EndsTold::FaultsAndUsedUp,
+    }
+}
+
+// Whether a hart still runs, having used its budget or the total up.
 fn is_any_running(answer: &ThreadsAnswer<Global>) -> bool {
     answer.lines.contains(" running ")
 }

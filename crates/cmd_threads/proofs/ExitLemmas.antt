@@ -1,5 +1,5 @@
 -- An object on threads: each hart exits, and the rule is kept.
-use Rattle.std.proofs.Common.{◌≡◌, ℕ, ◌^◌, ◌<◌, ◌≤◌, ◌⊎◌, true, false, List, length, refl, subst, sym, ap, ◌∙◌, arith, inl, inr}
+use Rattle.std.proofs.Common.{◌≡◌, ℕ, ◌^◌, ◌<◌, ◌≤◌, ◌⊎◌, true, false, List, length, None, refl, subst, sym, ap, ◌∙◌, arith, inl, inr}
 use Rattle.std.specs.Prelude.{slice_get, slice_index_or}
 use Rattle.std.specs.List.{All}
 use Rattle.std.proofs.lemmas.Option.{slice_get-get_or}
@@ -19,8 +19,9 @@ use Rattle.object_library.specs.Rules.{is_exited, is_faulted, HasExited, KeepsRu
 use Rattle.object_library.specs.declared.kind.Kind.{Kind}
 use Rattle.object_library.specs.declared.kind.Kind.TheVariants.{Swap, Add, LrSc, AdoptCommit, Rounds}
 use Rattle.thread_gate.specs.Stopped.{is_stopped}
-use Rattle.thread_book.specs.Book.{BookValue, replayed, world_of}
-use Rattle.thread_run.specs.Outcome.{has_stopped, IsOutcome}
+use Rattle.thread_book.specs.Book.{BookValue, hart_in_book, replayed, world_of}
+use Rattle.thread_run.specs.Outcome.{has_stopped, HasEnded, IsOutcome}
+use Rattle.thread_run.specs.Own.{own_choices}
 use Rattle.cmd_run.specs.Certified.{IsMeantFor}
 use Rattle.cmd_run.specs.Enough.{enough}
 use Rattle.cmd_run.proofs.CertifiedLemmas.{object_keeps}
@@ -98,13 +99,20 @@ exits_of kind image inputs history budget same meant words within ended often = 
     by h lt (inl (stopped, few)) = inl stopped
     by h lt (inr all) = inr (subst (λ n. enough kind (length inputs) (refusals choices h) ≤ n) (sym all) (often h lt))
 
+-- without a total a hart has ended by itself
+by_itself : (b : BookValue) (budget h : ℕ) → HasEnded b budget None h
+    → ((has_stopped (hart_in_book b h) ≡ true) × (own_choices b h ≤ budget)) ⊎ (own_choices b h ≡ budget)
+by_itself b budget h (inl stopped) = inl stopped
+by_itself b budget h (inr (inl all)) = inr all
+by_itself b budget h (inr (inr used)) = absurd used
+
 pub exits_kept : (kind : Kind) (image : ImageValue) (inputs : List ℕ) (budget : ℕ) (plan : List (ℕ × ℕ)) (b : BookValue)
     → IsSame image (image_of kind) → IsMeantFor kind (length inputs) → All (λ x. x < 2 ^ 32) inputs
-    → IsOutcome image inputs budget plan b → IsBudgetEnough kind budget b → ExitsKept kind b
+    → IsOutcome image inputs budget None plan b → IsBudgetEnough kind budget b → ExitsKept kind b
 exits_kept kind image inputs budget plan b same meant words o often =
     exits_of kind b.image b.inputs b.history budget
     (subst (λ i. IsSame i (image_of kind)) (sym o.same_image) same)
     (subst (λ xs. IsMeantFor kind (length xs)) (sym o.same_inputs) meant)
     (subst (λ (xs : List ℕ). All (λ x. x < 2 ^ 32) xs) (sym o.same_inputs) words)
     (λ k d lt. subst (λ (xs : List ℕ). (slice_index_or b.history k d).hart < length xs) (sym o.same_inputs) (o.within k d lt).0)
-    (λ h lt. o.ended h (subst (λ (xs : List ℕ). h < length xs) o.same_inputs lt)) often
+    (λ h lt. by_itself b budget h (o.ended h (subst (λ (xs : List ℕ). h < length xs) o.same_inputs lt))) often

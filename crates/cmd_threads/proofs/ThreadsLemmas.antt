@@ -26,10 +26,10 @@ use Rattle.cmd_run.proofs.CertifiedLemmas.{certified_shown}
 use Rattle.cmd_replay.proofs.KeptLemmas.{within_history}
 use Rattle.cmd_threads.proofs.ReplayLemmas.{replay_answers}
 
-module _ (image : ImageValue) (inputs : List ℕ) (budget : ℕ) (plan : List (ℕ × ℕ)) (b : BookValue) (o : IsOutcome image inputs budget plan b) where
+module _ (image : ImageValue) (inputs : List ℕ) (budget : ℕ) (total : Option ℕ) (plan : List (ℕ × ℕ)) (b : BookValue) (o : IsOutcome image inputs budget total plan b) where
   -- the book is that of the image and the inputs
-  pub outcome_itself : IsOutcome image inputs budget plan (record { image = image; inputs = inputs; history = b.history })
-  outcome_itself = subst (λ (x : BookValue). IsOutcome image inputs budget plan x)
+  pub outcome_itself : IsOutcome image inputs budget total plan (record { image = image; inputs = inputs; history = b.history })
+  outcome_itself = subst (λ (x : BookValue). IsOutcome image inputs budget total plan x)
       (λ i. record { image = o.same_image i; inputs = o.same_inputs i; history = b.history }) o
 
   -- what is printed of the book's harts is the printed world after its history
@@ -63,7 +63,7 @@ module _ (image : ImageValue) (inputs : List ℕ) (budget : ℕ) (plan : List (�
   -- the answer to a program that was read
   pub answered : {A : Type 0} (left : Option (List ℕ)) (answer : ThreadsAnswer A)
       → IfSome left (λ p. program_of form.Elf p ≡ Ok image) → string_bytes answer.history ≡ history_text b.history
-      → IfSome left (λ p. IsAnswer inputs budget plan p answer)
+      → IfSome left (λ p. IsAnswer inputs budget total plan p answer)
   answered None answer reads text = tt
   answered (Some p) answer reads text =
       record { image = image; entries = b.history; reads = reads; outcome = outcome_itself; text = text }

@@ -1,5 +1,5 @@
 -- The history of a run on threads, its verdict, and why it is refused.
-use Rattle.std.specs.Prelude.{◌≡◌, ℕ, List, Ok, Err, string_bytes}
+use Rattle.std.specs.Prelude.{◌≡◌, ℕ, List, Option, Ok, Err, string_bytes}
 use Rattle.image.specs.Image.{ImageValue}
 use Rattle.history.specs.declared.entry.Entry.{Entry}
 use Rattle.history.specs.Printing.{history_text}
@@ -16,12 +16,12 @@ use Rattle.thread_run.specs.declared.fault.RunFault.{RunFault}
 use Rattle.thread_run.specs.declared.fault.RunFault.TheVariants as threads
 use Rattle.cmd_threads.specs.declared.threads.ThreadsAnswer.{ThreadsAnswer}
 
--- an answer's history is one of the file's program, in accord with plan and budget
-pub record IsAnswer {A : Type 0} (inputs : List ℕ) (budget : ℕ) (plan : List (ℕ × ℕ)) (program : List ℕ) (answer : ThreadsAnswer A) : Type 0 where
+-- an answer's history is one of the file's program, in accord with plan, budget and total
+pub record IsAnswer {A : Type 0} (inputs : List ℕ) (budget : ℕ) (total : Option ℕ) (plan : List (ℕ × ℕ)) (program : List ℕ) (answer : ThreadsAnswer A) : Type 0 where
   pub image : ImageValue
   pub entries : List Entry
   pub reads : program_of form.Elf program ≡ Ok image
-  pub outcome : IsOutcome image inputs budget plan (record { image = image; inputs = inputs; history = entries })
+  pub outcome : IsOutcome image inputs budget total plan (record { image = image; inputs = inputs; history = entries })
   pub text : string_bytes answer.history ≡ history_text entries
 
 -- the lines end with `verdict kept`, and the status shows no broken rule

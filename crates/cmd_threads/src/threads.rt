@@ -1,5 +1,5 @@
-//! `threads`: from a program, inputs, a budget and a plan to the history of the harts, their ends
-//! and the verdict on them.
+//! `threads`: from a program, inputs, a budget, a total and a plan to the history of the harts, their
+//! ends and the verdict on them.
 
 ghost use Rattle.std.specs.Prelude.{◌≡◌, ◌^◌, ◌-◌, ◌<◌, ◌≤◌, Ok, IfOk, IfErr, IfSome, length, string_bytes};
 ghost use Rattle.cmd_replay.specs.Replay.{replay_answer};
@@ -19,7 +19,7 @@ use std::alloc::{AllocError, Allocator};
 use std::sync::Wait;
 use std::thread::Threads;
 use thread_gate::{Gate, Plan};
-use thread_run::{RunFault, run_threads};
+use thread_run::{Limits, RunFault, run_threads};
 
 /// The parameters of a run on threads, besides the program.
 #[derive(Drop)]
@@ -45,8 +45,9 @@ pub struct ThreadsAnswer<A: Allocator> {
     pub status: Status,
 }
 
-/// `threads`: reads the program to its end, and runs it with a thread for each hart. The lines are
-/// those that `replay` prints of the history.
+/// `threads`: reads the program to its end, and runs it with a thread for each hart. With a total all
+/// harts together make at most as many choices. The lines are those that `replay` prints of the
+/// history.
 pub fn threads_engine<
     A: Allocator + Copy + Send + Sync,
     P: Source,
@@ -56,12 +57,13 @@ pub fn threads_engine<
     rt: &R,
     alloc: A,
     task: ThreadsTask<A>,
+    total: Option<u32>,
     program: &mut P,
     gate: &G,
 ) -> Result<ThreadsAnswer<A>, CommandFault>
     requires { P.failures program.old < 2 ^ 64 - 1 }
     ensures answer { IfOk result (λ answer. IfSome (P.left program.old) (λ p.
-        IsAnswer task.inputs.items task.budget task.plan.keys p answer)) }
+        IsAnswer task.inputs.items task.budget total task.plan.keys p answer)) }
     ensures startable { IfOk result (λ _. IsStartable task.inputs.items) }
     // `replay` answers the same to that history.
     ensures replays { IfOk result (λ answer. IfSome (P.left program.old) (λ p.
@@ -93,7 +95,8 @@ pub fn threads_engine<
         expect,
         ..
     } = task;
-    let book = match run_threads(rt, alloc, image, inputs, budget, plan, gate) {
+    let limits = Limits { budget, total };
+    let book = match run_threads(rt, alloc, image, inputs, limits, plan, gate) {
         Ok(outcome) => outcome.book,
         Err(fault) => return Err(fault_of_threads(fault)),
     };

@@ -2,9 +2,9 @@
 
 use crate::places::{push_instruction, push_standing, rwx, segment_at};
 use crate::sentences::{
-    ACROSS, AT_ZERO, BREAK, CALL, COMPRESSED, MISALIGNED, NO_INSTRUCTION, NO_STACK, NOT_EXECUTABLE,
-    NOT_READABLE, NOT_WRITABLE, NOWHERE_TO_FETCH, ODD_JUMP, PAST_LAST, STILL_RUNS, UNMAPPED,
-    USED_UP, ZEROS,
+    ACROSS, ALL_USED_UP, AT_ZERO, BREAK, CALL, COMPRESSED, MISALIGNED, NO_INSTRUCTION, NO_STACK,
+    NOT_EXECUTABLE, NOT_READABLE, NOT_WRITABLE, NOWHERE_TO_FETCH, ODD_JUMP, PAST_LAST, STILL_RUNS,
+    UNMAPPED, USED_UP, ZEROS,
 };
 use elf_read::Symbol;
 use hart_step::{Access, Cause, Hart, HartState, access_by};
@@ -45,6 +45,8 @@ pub enum EndsTold {
     FaultsAndRunning,
     /// Faults, and that a hart still runs with its budget used up.
     FaultsAndUsedUp,
+    /// Faults, and that a hart still runs with its budget or the total of all harts used up.
+    FaultsAndAllUsedUp,
 }
 
 /// Explains how a machine's harts ended, as whole lines: the place of the hart, its instruction, and
@@ -108,6 +110,7 @@ fn push_end<A: Allocator>(
 fn running_form(told: EndsTold) -> Form {
     match told {
         EndsTold::FaultsAndUsedUp => USED_UP,
+        EndsTold::FaultsAndAllUsedUp => ALL_USED_UP,
         EndsTold::Faults | EndsTold::FaultsAndRunning => STILL_RUNS,
     }
 }

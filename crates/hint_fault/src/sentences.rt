@@ -90,5 +90,10 @@ pub(crate) const USED_UP: Form = &[Words(
     "its budget is used up, and it still runs: a larger --budget may end it",
 )];
 
+/// A hart that runs after the last step of its budget or of the total of all harts.
+pub(crate) const ALL_USED_UP: Form = &[Words(
+    "its budget or the total is used up, and it still runs: a larger --budget or --total may end it",
+)];
+
 /// An EBREAK.
 pub(crate) const BREAK: Form = &[Words("the program's own check just before this failed")];

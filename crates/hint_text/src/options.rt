@@ -86,6 +86,7 @@ pub(crate) const COMMANDS: [Row; 14] = [
         options: &[
             "--inputs",
             "--budget",
+            "--total",
             "--refuse",
             "--history",
             "--rule",

@@ -48,7 +48,7 @@ fn inputs_are_read(rt: HostRuntime) {
 // Lines, and what is read of each: its command and the texts of its arguments, by their names. No
 // proof goes over a table of all of them.
 #[rattlefmt::skip]
-static LINES: [(&str, &str); 64] = [
+static LINES: [(&str, &str); 65] = [
     ("rvcons asm a.s", "asm IN=a.s"),
     ("rvcons asm --out o a.s b.s", "asm out=o IN=a.s IN=b.s"),
     ("rvcons asm b.s a.s --out=o", "asm out=o IN=b.s IN=a.s"),
@@ -100,8 +100,10 @@ static LINES: [(&str, &str); 64] = [
         "threads FILE=p inputs=7,9 budget=5 banked=yes"),
     ("rvcons threads p --inputs 7,9 --budget 5 --must-exit",
         "threads FILE=p inputs=7,9 budget=5 must-exit=yes"),
-    ("rvcons threads p --banked --must-exit --rule k --history h --refuse 0:7 --budget 5 --inputs 7,9",
-        "threads FILE=p inputs=7,9 budget=5 refuse=0:7 history=h rule=k must-exit=yes banked=yes"),
+    ("rvcons threads p --inputs 7,9 --budget 5 --total 8",
+        "threads FILE=p inputs=7,9 budget=5 total=8"),
+    ("rvcons threads p --banked --must-exit --rule k --history h --refuse 0:7 --total 8 --budget 5 --inputs 7,9",
+        "threads FILE=p inputs=7,9 budget=5 total=8 refuse=0:7 history=h rule=k must-exit=yes banked=yes"),
     ("rvcons replay p --inputs 7,9 --history h", "replay FILE=p inputs=7,9 history=h"),
     ("rvcons replay p --inputs 7,9 --history h --rule k",
         "replay FILE=p inputs=7,9 history=h rule=k"),

@@ -130,6 +130,7 @@ fn threads_text(alloc: Global, order: &ThreadsOrder) -> Result<String, AllocErro
         ("FILE", Some(order.file)),
         ("inputs", Some(order.inputs)),
         ("budget", Some(order.budget)),
+        ("total", order.total),
         ("refuse", order.refuse),
         ("history", order.history),
         ("rule", order.rule),

@@ -129,6 +129,7 @@ fn keeps_rule<R: Threads + Wait + Sync>(
         program: Program::Object(object.kind),
         inputs: object.inputs,
         budget: BUDGET,
+        total: None,
         pairs: &pairs_of(number, object.bound),
     };
     let book = run(rt, alloc, &order, &OpenGate).ok()?;
@@ -172,6 +173,7 @@ const TWO: Order = Order {
     program: SWAP,
     inputs: &[7, 9],
     budget: BUDGET,
+    total: None,
     pairs: &[],
 };
 
@@ -206,6 +208,7 @@ const FOUR: Order = Order {
     program: LR_SC,
     inputs: &[3, 5, 7, 9],
     budget: BUDGET,
+    total: None,
     pairs: &[],
 };
 

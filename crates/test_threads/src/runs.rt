@@ -6,16 +6,27 @@ use std::thread::Threads;
 use test_images::{Program, plan_of, program_image};
 use thread_book::Book;
 use thread_gate::Gate;
-use thread_run::{RunFault, run_threads};
+use thread_run::{Limits, RunFault, run_threads};
 
-/// What is run: a program with a hart for each input, how often each hart is chosen at most, and
-/// the pairs of its plan.
+/// What is run: a program with a hart for each input, how often each hart and all together are chosen
+/// at most, and the pairs of its plan.
 #[derive(Clone, Copy)]
 pub struct Order<'a> {
     pub program: Program,
     pub inputs: &'a [u32],
     pub budget: u32,
+    pub total: Option<u32>,
     pub pairs: &'a [(u32, u32)],
+}
+
+impl<'a> Order<'a> {
+    // How many choices there are at most.
+    fn limits(&self) -> Limits {
+        Limits {
+            budget: self.budget,
+            total: self.total,
+        }
+    }
 }
 
 /// The book of a run.
@@ -32,6 +43,6 @@ pub fn run<A: Allocator + Copy + Send + Sync, G: Gate + Sync, R: Threads + Wait 
     ) else {
         return Err(RunFault::Memory);
     };
-    let outcome = run_threads(rt, alloc, image, inputs, order.budget, plan, gate)?;
+    let outcome = run_threads(rt, alloc, image, inputs, order.limits(), plan, gate)?;
     Ok(outcome.book)
 }

@@ -1,7 +1,8 @@
 -- How often harts are chosen: in one list after another, in an entry; and that a hart that is not
 -- chosen stays.
-use Rattle.std.proofs.Common.{◌≡◌, ◌≢◌, ℕ, zero, suc, ◌+◌, ◌==◌, Bool, true, false, true≢false, List, [], ◌∷◌, ◌++◌, set, Option, Some, None, refl, ap, sym, ◌∙◌, arith, eq-eqb, ne_eqb}
+use Rattle.std.proofs.Common.{◌≡◌, ◌≢◌, ℕ, zero, suc, ◌+◌, ◌==◌, Bool, true, false, true≢false, List, [], ◌∷◌, ◌++◌, length, set, Option, Some, None, refl, ap, sym, ◌∙◌, arith, eq-eqb, ne_eqb}
 use Rattle.std.specs.Prelude.{replicate, if◌then◌else◌, slice_get}
+use Rattle.std.proofs.lemmas.List.{length-append, length-replicate}
 use Rattle.hart_step.specs.Hart.{HartValue}
 use Rattle.machine.specs.World.{World, step_of, step, run}
 use Rattle.machine.specs.declared.choice.Choice.{Choice}
@@ -55,6 +56,11 @@ pub own_other : (n h j : ℕ) (refuse : Bool) → j ≢ h → own (entry_choices
 own_other n h j refuse apart =
     own-append (replicate n (choice h false)) (choice h refuse ∷ []) j
     ∙ omega (arith, other_plain n h j apart, other_one h j refuse apart)
+
+-- an entry has one choice more than it has local steps
+pub entry_length : (n h : ℕ) (refuse : Bool) → length (entry_choices (entry h n refuse)) ≡ n + 1
+entry_length n h refuse =
+    length-append (replicate n (choice h false)) (choice h refuse ∷ []) ∙ ap (λ k. k + 1) (length-replicate n (choice h false))
 
 -- ---- harts that are not chosen
 get-set_other : {X : Type 0} (xs : List X) (i j : ℕ) (y : X) → j ≢ i → slice_get (set xs i y) j ≡ slice_get xs j

@@ -1,4 +1,5 @@
 pub mod Own
+pub mod Total
 pub mod Plan
 pub mod Whole
 pub mod Outcome

@@ -2,11 +2,15 @@
 #![tactic(auto)]
 
 pub use fault::{CommitFault, RunFault};
+pub use limits::Limits;
 pub use runner::{Outcome, run_threads};
 pub use seat::Seat;
 pub use shared::Shared;
 
+mod entered;
 mod fault;
+mod limits;
+mod room;
 mod runner;
 mod running;
 mod seat;

@@ -4,6 +4,7 @@ ghost use Rattle.hart_reservations.specs.Limit.{most_harts as most};
 ghost use Rattle.thread_run.specs.Outcome.{IsOutcome};
 
 use crate::fault::{CommitFault, RunFault};
+use crate::limits::Limits;
 use crate::running::Running;
 use crate::spent::Spent;
 use crate::terms::Terms;
@@ -27,33 +28,35 @@ pub struct Outcome<A: Allocator> {
 }
 
 /// Runs a program with a hart for each input. Each hart has a thread of its own, and runs until it
-/// has stopped or was chosen `budget` times. Local steps of several harts run at the same time;
-/// each other step is taken under the book's lock, after the gate has returned. Fails if the host
-/// refuses a thread or is out of memory.
+/// has stopped, its budget is used up, or all harts together have made as many choices as the total
+/// allows, if there is one. Local steps of several harts run at the same time; each other step is
+/// taken under the book's lock, after the gate has returned. Fails if the host refuses a thread or
+/// is out of memory.
 pub fn run_threads<A: Allocator + Copy + Send + Sync, G: Gate + Sync, R: Threads + Wait + Sync>(
     rt: &R,
     alloc: A,
     image: Image<A>,
     inputs: Inputs,
-    budget: u32,
+    limits: Limits,
     plan: Plan<A>,
     gate: &G,
 ) -> Result<Outcome<A>, RunFault>
-    ensures ended { IfOk result (λ outcome. IsOutcome image inputs budget plan.keys outcome.book) }
+    ensures ended { IfOk result (λ outcome.
+        IsOutcome image inputs limits.budget limits.total plan.keys outcome.book) }
 {
     let harts = inputs.harts();
     let Ok(book) = Book::new(alloc, image, inputs) else {
         return Err(RunFault::Memory);
     };
-    if budget == 0 {
+    if limits.allow_none() {
         return Ok(Outcome { book });
     }
     let blank = Blank::new(harts as u64);
-    let book = run_book::<Brand, A, G, R>(rt, alloc, blank, book, budget, plan, gate)?;
+    let book = run_book::<Brand, A, G, R>(rt, alloc, blank, book, limits, plan, gate)?;
     Ok(Outcome { book })
 }
 
-// Runs the harts of a book with an empty history, and a budget above 0.
+// Runs the harts of a book with an empty history, and limits above 0.
 fn run_book<
     T: Terms + Send + Sync,
     A: Allocator + Copy + Send + Sync,
@@ -64,7 +67,7 @@ fn run_book<
     alloc: A,
     blank: Blank,
     book: Book<A>,
-    budget: u32,
+    limits: Limits,
     plan: Plan<A>,
     gate: &G,
 ) -> Result<Book<A>, RunFault>
@@ -72,9 +75,10 @@ fn run_book<
     requires parts { (blank.parts ≡ T.parts) × (blank.parts ≡ length T.inputs) }
     requires few { (0 < length T.inputs) × (length T.inputs ≤ most) }
     requires book { book ≡ record { image = T.image; inputs = T.inputs; history = [] } }
-    requires budget { (budget ≡ T.budget) × (0 < T.budget) }
+    requires budget { (limits.budget ≡ T.budget) × (0 < T.budget) }
+    requires total { limits.total ≡ T.total }
     requires plan { plan.keys ≡ T.plan }
-    ensures ended { IfOk result (λ b. IsOutcome T.image T.inputs T.budget T.plan b) }
+    ensures ended { IfOk result (λ b. IsOutcome T.image T.inputs T.budget T.total T.plan b) }
 {
     let harts = book.inputs().harts();
     let Ok(owned) = vec![in alloc; 0u32; harts as usize] else {
@@ -82,8 +86,8 @@ fn run_book<
     };
     let (mut tickets, mut all) = blank.open::<T>();
     tickets.add(&mut all, harts as u64);
-    let running = Mutex::new(Running::new(book, owned, plan, budget, tickets));
-    let mut all = run_all(rt, alloc, &running, gate, budget, harts, all)?;
+    let running = Mutex::new(Running::new(book, owned, plan, limits, tickets));
+    let mut all = run_all(rt, alloc, &running, gate, limits.budget, harts, all)?;
     Ok(running.into_inner().finish(&mut all))
 }
 

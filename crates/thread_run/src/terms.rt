@@ -2,10 +2,10 @@
 use std::marker::Brand;
 use std::sync::ledger::Ledger;
 
-/// The program, the harts' inputs, the budget and the plan of one run, and the ledger of its
-/// tickets. They exist only in proofs, so that a lock's type can name them; each run picks its own.
+/// The program, the harts' inputs, the budget, the total and the plan of one run, and the ledger of
+/// its tickets. They exist only in proofs, so that a lock's type can name them; each run picks its own.
 pub trait Terms: Ledger {
-    ghost use Rattle.std.specs.Prelude.{ℕ, List};
+    ghost use Rattle.std.specs.Prelude.{ℕ, List, Option};
     ghost use Rattle.image.specs.Image.{ImageValue};
 
     ghost image: { ImageValue };
@@ -14,17 +14,21 @@ pub trait Terms: Ledger {
 
     ghost budget: { ℕ };
 
+    ghost total: { Option ℕ };
+
     ghost plan: { List (ℕ × ℕ) };
 }
 
 impl Terms for Brand {
-    ghost use Rattle.std.specs.Prelude.{[]};
+    ghost use Rattle.std.specs.Prelude.{[], None};
 
     ghost image = { record { entry = 0; segments = [] } };
 
     ghost inputs = { [] };
 
     ghost budget = { 0 };
+
+    ghost total = { None };
 
     ghost plan = { [] };
 }
