@@ -3,14 +3,15 @@ use Rattle.std.specs.Prelude.{◌≡◌, ℕ, List, [], ◌∷◌, ◌++◌, cod
 use Rattle.std.specs.declared.result.Result.TheVariants.{Ok, Err}
 use Rattle.image.specs.Image.{ImageValue}
 use Rattle.image.specs.Segment.{SegmentValue}
+use Rattle.elf_read.specs.Symbol.{SymbolValue}
 use Rattle.elf_read.specs.SymbolTable.{Symbols, symbols_of}
 use Rattle.elf_read.specs.declared.symbol.SymFault.TheVariants as symbols
+use Rattle.json.specs.Print.{quoted}
 use Rattle.object_library.specs.declared.kind.Kind.{Kind}
 use Rattle.object_library.specs.Names.{object_name}
 use Rattle.program_open.specs.Program.{program_of}
 use Rattle.program_open.specs.declared.program.ProgramForm.TheVariants as form
 use Rattle.trace_text.specs.Composites.{array, member, object}
-use Rattle.trace_text.specs.Head.{symbol_object}
 use Rattle.trace_text.specs.Values.{name_value}
 use Rattle.cmd_run.specs.Info.{rights_text, AreShown, NamesLibrary}
 use Rattle.cmd_run.specs.declared.info.SymbolOrder.{SymbolOrder}
@@ -21,6 +22,13 @@ segment_object s = object (
     member (codes "base") (decimal s.base)
     ∷ member (codes "size") (decimal s.size)
     ∷ member (codes "rights") (name_value (rights_text s.rights))
+    ∷ [])
+
+-- a symbol: its name and its address
+unfoldable pub symbol_object : SymbolValue → List ℕ
+symbol_object s = object (
+    member (codes "name") (quoted s.name)
+    ∷ member (codes "address") (decimal s.address)
     ∷ [])
 
 -- the symbols; none if there is no table, and `null` if it is invalid

@@ -1,10 +1,9 @@
 //! The values of the members of a file's object.
 
 ghost use Rattle.std.specs.Prelude.{◌≡◌, ◌≢◌, ◌++◌, ◌∷◌, [], codes, decimal, map, Err, IfOk, OnOk};
-ghost use Rattle.cmd_info.specs.Facts.{library_value, segment_object, symbols_value};
+ghost use Rattle.cmd_info.specs.Facts.{library_value, segment_object, symbol_object, symbols_value};
 ghost use Rattle.cmd_run.specs.Info.{rights_text, symbols_found};
 ghost use Rattle.trace_text.specs.Composites.{array, member, more_elements};
-ghost use Rattle.trace_text.specs.Head.{symbol_object};
 ghost use Rattle.trace_text.specs.Values.{name_value};
 
 use cmd_json::{
@@ -89,7 +88,7 @@ pub(crate) fn push_segments<A: Allocator + Copy>(
 }
 
 // Appends a symbol.
-#[tactic(auto, unfolding(trace_text::specs::Head::symbol_object))]
+#[tactic(auto, unfolding(crate::specs::Facts::symbol_object))]
 fn push_symbol<A: Allocator>(out: &mut Vec<u8, A>, symbol: &Symbol<A>) -> Result<(), AllocError>
     ensures { OnOk result (out.new.items ≡ out.old.items ++ symbol_object symbol.now) }
 {

@@ -1,6 +1,6 @@
 use Rattle.std.proofs.Common.{◌≡◌, ◌++◌, drop, map}
 use Rattle.trace_text.specs.Composites.{more_elements}
-use Rattle.trace_text.specs.Head.{symbol_object}
+use Rattle.cmd_info.specs.Facts.{symbol_object}
 use Rattle.cmd_info.proofs.members.push_more_symbols.Given as goal
 
 -- the text so far, and then the symbols that are left
