@@ -25,15 +25,15 @@ segment_object s = object (
     ∷ [])
 
 -- a symbol: its name and its address
-unfoldable pub symbol_object : SymbolValue → List ℕ
-symbol_object s = object (
+unfoldable pub symbol_shown : SymbolValue → List ℕ
+symbol_shown s = object (
     member (codes "name") (quoted s.name)
     ∷ member (codes "address") (decimal s.address)
     ∷ [])
 
 -- the symbols; none if there is no table, and `null` if it is invalid
 unfoldable pub symbols_value : Symbols → List ℕ
-symbols_value (Ok symbols) = array (map symbol_object symbols)
+symbols_value (Ok symbols) = array (map symbol_shown symbols)
 symbols_value (Err symbols.NoTable) = array []
 symbols_value (Err symbols.BadTable) = codes "null"
 symbols_value (Err symbols.Memory) = []

@@ -1,7 +1,7 @@
 //! The values of the members of a file's object.
 
 ghost use Rattle.std.specs.Prelude.{◌≡◌, ◌≢◌, ◌++◌, ◌∷◌, [], codes, decimal, map, Err, IfOk, OnOk};
-ghost use Rattle.cmd_info.specs.Facts.{library_value, segment_object, symbol_object, symbols_value};
+ghost use Rattle.cmd_info.specs.Facts.{library_value, segment_object, symbol_shown, symbols_value};
 ghost use Rattle.cmd_run.specs.Info.{rights_text, symbols_found};
 ghost use Rattle.trace_text.specs.Composites.{array, member, more_elements};
 ghost use Rattle.trace_text.specs.Values.{name_value};
@@ -88,9 +88,9 @@ pub(crate) fn push_segments<A: Allocator + Copy>(
 }
 
 // Appends a symbol.
-#[tactic(auto, unfolding(crate::specs::Facts::symbol_object))]
+#[tactic(auto, unfolding(crate::specs::Facts::symbol_shown))]
 fn push_symbol<A: Allocator>(out: &mut Vec<u8, A>, symbol: &Symbol<A>) -> Result<(), AllocError>
-    ensures { OnOk result (out.new.items ≡ out.old.items ++ symbol_object symbol.now) }
+    ensures { OnOk result (out.new.items ≡ out.old.items ++ symbol_shown symbol.now) }
 {
     out.push(b'{')?;
     push_string_member(out, "name", &symbol.name)?;
@@ -104,7 +104,7 @@ fn push_more_symbols<A: Allocator>(
     symbols: &[Symbol<A>],
 ) -> Result<(), AllocError>
     ensures { OnOk result (out.new.items
-        ≡ out.old.items ++ more_elements (map symbol_object symbols.now)) }
+        ≡ out.old.items ++ more_elements (map symbol_shown symbols.now)) }
 {
     'symbols: for symbol in symbols {
         out.push(b',')?;
@@ -116,7 +116,7 @@ fn push_more_symbols<A: Allocator>(
 
 // Appends the array of symbols.
 fn push_symbols<A: Allocator>(out: &mut Vec<u8, A>, symbols: &[Symbol<A>]) -> Result<(), AllocError>
-    ensures { OnOk result (out.new.items ≡ out.old.items ++ array (map symbol_object symbols.now)) }
+    ensures { OnOk result (out.new.items ≡ out.old.items ++ array (map symbol_shown symbols.now)) }
 {
     let [first, rest @ ..] = symbols else {
         return out.extend_from_slice(b"[]");
