@@ -4,9 +4,9 @@ ghost use Rattle.std.specs.Prelude.{◌-◌, ◌<◌, ◌^◌};
 
 use byte_io::{ReadFault, Source, Status, read_all};
 use cli_orders::{CampaignOrder, ExploreOrder, ShrinkOrder};
-use cli_report::{Audience, RunFiles, say_why};
+use cli_report::{Audience, RunFiles, out_of_memory, say_why};
 use cmd_campaign::Properties;
-use elf_read::symbols;
+use elf_read::{SymFault, symbols};
 use machine::Inputs;
 use program_open::{CommandFault, Input, ProgramForm, read_program};
 use property_judge::Property;
@@ -97,7 +97,8 @@ fn properties_among<R: AllocGlobal + Eprint>(
 ) -> Result<Properties, Status> {
     let symbols = match symbols(rt.alloc(), program) {
         Ok(symbols) => symbols,
-        Err(_) => Vec::new(rt.alloc()),
+        Err(SymFault::NoTable | SymFault::BadTable) => Vec::new(rt.alloc()),
+        Err(SymFault::Memory) => return Err(out_of_memory(rt)),
     };
     let first = match texts.never_both {
         Some(text) => Some(property_said(rt, text, read_never_both(&symbols, text.as_bytes()))?),
