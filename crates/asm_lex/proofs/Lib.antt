@@ -5,3 +5,4 @@ pub mod Found
 pub mod Spans
 pub mod Ascii
 pub mod LexemeSteps
+mod Marks
