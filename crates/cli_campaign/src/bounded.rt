@@ -3,13 +3,14 @@
 ghost use Rattle.std.specs.Prelude.{◌+◌, ◌-◌, ◌<◌, ◌^◌, IfOk};
 
 use crate::campaign::{form_of, read_expect, why_no_report};
-use byte_io::{Progress, Source, Status, WriterSink};
+use byte_io::{Progress, Source, Status};
 use cli_orders::CampaignOrder;
-use cli_report::{Audience, RunFiles, WIPE, bad_line, inputs_said, open_one, say_why, wipe_line};
+use cli_report::{
+    Audience, RunFiles, WIPE, bad_line, inputs_said, open_one, print_text, say_why, wipe_line,
+};
 use cli_values::{BOUNDS, read_bounds, read_report};
 use cmd_bounded::{BoundedCampaign, Report, bounded_choices_engine, bounded_engine};
-use program_open::{CommandFault, write_text};
-use std::io;
+use program_open::CommandFault;
 use std::rt::Files;
 
 // How many schedules are run before a person is told again.
@@ -144,7 +145,7 @@ fn print_choices<R: AllocGlobal + Print + Eprint, P: Source>(
     let Some(text) = bounded_choices_engine(rt.alloc(), inputs, campaign, program)? else {
         return Ok(bad_line(rt, "--choices-of names a schedule that isn't there"));
     };
-    write_text(&mut WriterSink::new(io::writer(rt)), text.as_bytes())?;
+    print_text(rt, text.as_bytes())?;
     Ok(Status::Done)
 }
 
@@ -171,7 +172,7 @@ fn print_report<R: AllocGlobal + Print + Eprint, P: Source>(
         wipe_line(rt, audience);
     }
     let (text, finished) = answer?;
-    write_text(&mut WriterSink::new(io::writer(rt)), text.as_bytes())?;
+    print_text(rt, text.as_bytes())?;
     if let Some(number) = finished.first_failure {
         if audience.is_told() {
             let _ = show_commands(rt, order, preemptions, number);

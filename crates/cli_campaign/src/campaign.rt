@@ -6,11 +6,11 @@ use crate::bounded::obey_bounded;
 use crate::exiting::{exit_of, hangs_said};
 use crate::properties::{PropertyTexts, read_properties, show_properties};
 use crate::watching::Watching;
-use byte_io::{MemorySource, Progress, Source, Status, WriterSink};
+use byte_io::{MemorySource, Progress, Source, Status};
 use cli_orders::CampaignOrder;
 use cli_report::{
-    Audience, EndsTold, Explained, RunFiles, WIPE, bad_line, ends_running, explain_ends,
-    explain_places, inputs_said, open_one, read_again, rule_said, say_why, wipe_line,
+    Audience, EndsTold, Explained, RunFiles, StandardOutput, WIPE, bad_line, ends_running,
+    explain_ends, explain_places, inputs_said, open_one, read_again, rule_said, say_why, wipe_line,
 };
 use cli_values::{
     JOBS, SeedNumbers, SeedPlan, read_draw, read_jobs, read_report, read_seed_numbers, seed_engine,
@@ -19,9 +19,8 @@ use cmd_campaign::{
     Campaign, Exit, Expect, Form, Hangs, Jobs, OnThreads, Properties, Report, RunStatus,
     campaign_engine, until_failure_engine,
 };
-use program_open::{ProgramForm, write_text};
+use program_open::{CommandFault, ProgramForm, write_text};
 use sched_draw::Order;
-use std::io;
 use std::rt::Files;
 use std::thread::Threads;
 
@@ -219,7 +218,7 @@ fn report_campaign<R: Files + AllocGlobal + Print + Eprint + Threads + Sync, P: 
     } else {
         None
     };
-    let mut sink = Watching::new(rt, audience, WriterSink::new(io::writer(rt)), kept);
+    let mut sink = Watching::new(rt, audience, StandardOutput::new(rt), kept);
     let mut line = Line {
         rt,
         audience,
@@ -231,8 +230,8 @@ fn report_campaign<R: Files + AllocGlobal + Print + Eprint + Threads + Sync, P: 
     let answer = if order.until_failure {
         match until_failure_engine(runner, rt.alloc(), inputs, campaign, program, &mut line) {
             Ok((text, finished)) => match write_text(&mut sink, text.as_bytes()) {
-                Ok(()) => Ok(finished),
-                Err(fault) => Err(fault),
+                Err(fault) if sink.inner().has_reader() => Err(fault),
+                Ok(()) | Err(_) => Ok(finished),
             },
             Err(fault) => Err(fault),
         }
@@ -261,6 +260,8 @@ fn report_campaign<R: Files + AllocGlobal + Print + Eprint + Threads + Sync, P: 
             }
             finished.run_status()
         }
+        // Nobody asks for the rest, so the seeds that are left aren't run.
+        Err(CommandFault::Write) if !sink.inner().has_reader() => RunStatus::Of(Status::Done),
         Err(fault) => {
             let files = RunFiles::of_program(order.file, inputs.len());
             RunStatus::Of(say_why(rt, audience, files, fault))

@@ -4,11 +4,11 @@ ghost use Rattle.std.specs.Prelude.{◌-◌, ◌<◌, ◌^◌};
 
 use crate::exiting::exit_of;
 use crate::properties::{PropertyTexts, listed, read_properties};
-use byte_io::{MemorySource, Progress, Source, Status, WriterSink};
+use byte_io::{MemorySource, Progress, Source, Status};
 use cli_orders::ExploreOrder;
 use cli_report::{
     Audience, EndsTold, Explained, RunFiles, WIPE, bad_line, explain_ends, inputs_said, open_one,
-    read_again, rule_said, say_why, show, wipe_line,
+    print_text, read_again, rule_said, say_why, show, wipe_line,
 };
 use cli_values::{WORLDS, read_worlds};
 use cmd_campaign::{Expect, Properties};
@@ -18,10 +18,9 @@ use cmd_explore::{
 };
 use hint_breaks::breaks_of_run;
 use object_library::Kind;
-use program_open::{CommandFault, ProgramForm, write_text};
+use program_open::{CommandFault, ProgramForm};
 use property_judge::Property;
 use std::alloc::{AllocError, Global};
-use std::io;
 use std::rt::{Clock, Files};
 use std::time::Instant;
 
@@ -229,7 +228,7 @@ fn tell_undecided<R: Files + AllocGlobal + Print + Eprint>(
     let printed = match form_of(order) {
         Form::Text => Ok(()),
         Form::Json => match undecided_object(rt.alloc(), most) {
-            Ok(text) => write_text(&mut WriterSink::new(io::writer(rt)), &text),
+            Ok(text) => print_text(rt, &text),
             Err(AllocError) => Err(CommandFault::Memory),
         },
     };
@@ -250,8 +249,7 @@ fn tell<R: Files + AllocGlobal + Print + Eprint>(
     properties: Properties,
     found: &Explored<Global>,
 ) -> Result<Status, Status> {
-    let mut sink = WriterSink::new(io::writer(rt));
-    if let Err(fault) = write_text(&mut sink, &found.text) {
+    if let Err(fault) = print_text(rt, &found.text) {
         return Err(tell_fault(rt, audience, order, inputs.len(), fault));
     }
     if audience.is_told() && !order.json {

@@ -4,16 +4,15 @@ ghost use Rattle.std.specs.Prelude.{◌-◌, ◌<◌, ◌^◌};
 
 use crate::exiting::exit_of;
 use crate::properties::{PropertyTexts, listed, read_properties};
-use byte_io::{MemorySource, Source, Status, WriterSink};
+use byte_io::{MemorySource, Source, Status};
 use cli_orders::ShrinkOrder;
 use cli_report::{
-    Audience, RunChoices, RunFiles, WIPE, inputs_said, open_run, out_of_memory, rule_said, say_why,
-    show,
+    Audience, RunChoices, RunFiles, WIPE, inputs_said, open_run, out_of_memory, print_answer,
+    rule_said, say_why, show,
 };
 use cmd_campaign::Expect;
 use cmd_shrink::{ChoicesLeft, Property, shrink_engine};
-use program_open::{CommandFault, ProgramForm, deliver};
-use std::io;
+use program_open::{CommandFault, ProgramForm};
 use std::rt::Files;
 
 // Shows a person the number of choices left.
@@ -121,7 +120,7 @@ fn print_shrunk<R: Files + AllocGlobal + Print + Eprint, P: Source, C: Source>(
     let (alloc, line) = (rt.alloc(), &mut Line { rt, audience });
     let (inputs, expect, properties) = (asked.inputs, asked.expect, asked.properties);
     let answer = shrink_engine(alloc, inputs, expect, properties, program, choices, line);
-    match deliver(&mut WriterSink::new(io::writer(rt)), answer) {
+    match print_answer(rt, answer) {
         Ok(status) => Ok(status),
         Err(fault) => Err(tell(rt, audience, asked.order, asked.files, fault)),
     }

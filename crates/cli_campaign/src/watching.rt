@@ -33,6 +33,11 @@ impl<'a, R, K> Watching<'a, R, K> {
         }
     }
 
+    /// Where bytes are passed on to.
+    pub(crate) fn inner(&self) -> &K {
+        &self.sink
+    }
+
     /// What was passed on. `None` if it isn't kept, or out of memory for it.
     pub(crate) fn passed(&self) -> Option<&[u8]> {
         match &self.passed {

@@ -2,17 +2,15 @@
 
 ghost use Rattle.std.specs.Prelude.{◌≡◌};
 
-use byte_io::{Status, WriterSink};
+use byte_io::Status;
 use cli_args::read_word;
 use cli_orders::ScheduleOrder;
-use cli_report::{Audience, RunFiles, bad_line, inputs_said, open_one, say, say_why};
+use cli_report::{Audience, RunFiles, bad_line, inputs_said, open_one, print_answer, say, say_why};
 use cli_values::{
     DRAWS, NO_POINTS, OrderFault, Plan, PlanFault, REFUSALS, read_draw, read_order, read_refusals,
     read_schedule, read_seed_plan, schedule_engine, seed_engine,
 };
-use program_open::deliver;
 use sched_draw::{ChangePoints, Draw, Order};
-use std::io;
 use std::rt::Files;
 
 const NUMBERS: &str =
@@ -166,8 +164,7 @@ fn print_plan<R: AllocGlobal + Print + Eprint>(
     order: &ScheduleOrder,
 ) -> Result<Status, Status> {
     let plan = read_plan(rt, order)?;
-    let mut sink = WriterSink::new(io::writer(rt));
-    match deliver(&mut sink, schedule_engine(rt.alloc(), plan)) {
+    match print_answer(rt, schedule_engine(rt.alloc(), plan)) {
         Ok(status) => Ok(status),
         Err(fault) => Err(say(rt, fault)),
     }
@@ -191,10 +188,9 @@ fn print_run_choices<R: Files + AllocGlobal + Print + Eprint>(
         return Err(bad_line(rt, NUMBERS));
     };
     let mut program = open_one(rt, audience, run.file)?;
-    let mut sink = WriterSink::new(io::writer(rt));
     let answer = seed_engine(rt.alloc(), inputs.as_slice(), plan, &mut program);
     let files = RunFiles::of_program(run.file, inputs.len());
-    match deliver(&mut sink, answer) {
+    match print_answer(rt, answer) {
         Ok(status) => Ok(status),
         Err(fault) => Err(say_why(rt, audience, files, fault)),
     }

@@ -3,12 +3,14 @@
 ghost use Rattle.std.specs.Prelude.{◌-◌, ◌^◌, ◌<◌};
 
 use crate::conversation::talk_to_person;
-use byte_io::{Progress, ReaderSource, Source, Status, WriterSink};
+use byte_io::{Progress, ReaderSource, Source, Status};
 use cli_orders::DebugOrder;
-use cli_report::{Audience, RunChoices, RunFiles, WIPE, inputs_said, open_run, say_why, wipe_line};
+use cli_report::{
+    Audience, RunChoices, RunFiles, StandardOutput, WIPE, inputs_said, open_run, say_why, wipe_line,
+};
 use cmd_debug::{DebugEngineFault, debug_engine};
 use program_open::ProgramForm;
-use std::io::{self, BufReader, Input};
+use std::io::{BufReader, Input};
 use std::rt::Files;
 
 // Shows a person how far the start of a session is.
@@ -77,8 +79,8 @@ fn talk_over<R: AllocGlobal + Print + Eprint + Input, P: Source, C: Source>(
         return Err(DebugEngineFault::Memory);
     };
     let mut commands = ReaderSource::new(reader);
-    let mut sink = WriterSink::new(io::writer(rt));
-    debug_engine(
+    let mut sink = StandardOutput::new(rt);
+    let answer = debug_engine(
         rt.alloc(),
         inputs,
         program,
@@ -86,7 +88,11 @@ fn talk_over<R: AllocGlobal + Print + Eprint + Input, P: Source, C: Source>(
         &mut commands,
         &mut sink,
         &mut line,
-    )
+    );
+    match answer {
+        Err(DebugEngineFault::Answers) if !sink.has_reader() => Ok(Status::Done),
+        answer => answer,
+    }
 }
 
 // Reports why the session didn't begin, or ended early.

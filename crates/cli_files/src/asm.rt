@@ -3,15 +3,15 @@
 ghost use Rattle.std.specs.Prelude.{◌≡◌, ◌≢◌, ◌-◌, ◌^◌, ◌<◌, All, IfErr, IfOk, length, map};
 
 use crate::sources::{explain_entry, explain_no_text, explain_sources};
-use byte_io::{ReaderSource, Source, Status, WriterSink};
+use byte_io::{ReaderSource, Source, Status};
 use cli_orders::AsmOrder;
 use cli_report::{
-    Audience, OutputFault, OutputFile, PROGRAM_MODE, cannot_open, cannot_read, cannot_write,
-    is_same_file, out_of_memory, would_overwrite,
+    Audience, OutputFault, OutputFile, PROGRAM_MODE, StandardOutput, cannot_open, cannot_read,
+    cannot_write, is_same_file, out_of_memory, would_overwrite,
 };
 use cmd_asm::{AssemblyFault, file_engine, listing_engine};
+use std::fs;
 use std::rt::Files;
-use std::{fs, io};
 
 // Opens the sources, in order.
 fn open_sources<R: Files + AllocGlobal + Print + Eprint>(
@@ -60,9 +60,10 @@ pub fn obey_asm<R: Files + AllocGlobal + Print + Eprint>(
     };
     match order.out {
         None => {
-            let mut sink = WriterSink::new(io::writer(rt));
+            let mut sink = StandardOutput::new(rt);
             match listing_engine(rt.alloc(), &mut sources, &mut sink) {
                 Ok(status) => status,
+                Err(AssemblyFault::Write) if !sink.has_reader() => Status::Done,
                 Err(fault) => tell(rt, audience, order, fault),
             }
         }

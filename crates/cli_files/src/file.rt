@@ -1,12 +1,11 @@
 //! Runs `list` and `info`.
 
-use byte_io::{ReaderSource, Status, WriterSink};
+use byte_io::{ReaderSource, Status};
 use cli_orders::{InfoOrder, ListOrder};
-use cli_report::{Audience, RunFiles, cannot_open, say_why};
+use cli_report::{Audience, RunFiles, cannot_open, print_answer, print_text, say_why};
 use cmd_info::{FileView, SymbolOrder, facts_engine, file_engine};
-use program_open::{ProgramForm, deliver, write_text};
+use std::fs;
 use std::rt::Files;
-use std::{fs, io};
 
 /// Lists the executable segments of an ELF file.
 pub fn obey_list<R: Files + AllocGlobal + Print + Eprint>(
@@ -51,7 +50,7 @@ fn show_object<R: Files + AllocGlobal + Print + Eprint>(
     };
     let answer = facts_engine(rt.alloc(), symbols, &mut ReaderSource::new(file));
     let written = match answer {
-        Ok(text) => write_text(&mut WriterSink::new(io::writer(rt)), &text),
+        Ok(text) => print_text(rt, &text),
         Err(fault) => Err(fault),
     };
     match written {
@@ -73,7 +72,7 @@ fn show<R: Files + AllocGlobal + Print + Eprint>(
     };
     let answer = file_engine(rt.alloc(), view, &mut ReaderSource::new(file));
     let files = RunFiles::of_program(path, 0);
-    match deliver(&mut WriterSink::new(io::writer(rt)), answer) {
+    match print_answer(rt, answer) {
         Ok(status) => status,
         Err(fault) => say_why(rt, audience, files, fault),
     }

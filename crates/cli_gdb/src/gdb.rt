@@ -1,11 +1,13 @@
 //! Runs `gdb`.
 
-use byte_io::{ReaderSource, Status, Unheard, WriterSink};
+use byte_io::{ReaderSource, Status, Unheard};
 use cli_orders::DebugOrder;
-use cli_report::{Audience, RunChoices, RunFiles, inputs_said, open_run, out_of_memory, say_why};
+use cli_report::{
+    Audience, RunChoices, RunFiles, StandardOutput, inputs_said, open_run, out_of_memory, say_why,
+};
 use cmd_gdb::{DebugEngineFault, gdb_engine};
 use program_open::ProgramForm;
-use std::io::{self, BufReader, Input};
+use std::io::{BufReader, Input};
 use std::rt::Files;
 
 /// Answers the packets of standard input, each as it comes. The program, and the file of the
@@ -23,7 +25,7 @@ pub fn obey_gdb<R: Files + AllocGlobal + Print + Eprint + Input>(
         return Err(out_of_memory(rt));
     };
     let mut packets = ReaderSource::new(reader);
-    let mut sink = WriterSink::new(io::writer(rt));
+    let mut sink = StandardOutput::new(rt);
     let answer = gdb_engine(
         rt.alloc(),
         &inputs,
@@ -41,6 +43,7 @@ pub fn obey_gdb<R: Files + AllocGlobal + Print + Eprint + Input>(
     };
     match answer {
         Ok(status) => Ok(status),
+        Err(DebugEngineFault::Answers) if !sink.has_reader() => Ok(Status::Done),
         Err(fault) => Err(tell(rt, audience, files, fault)),
     }
 }

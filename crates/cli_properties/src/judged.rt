@@ -2,18 +2,17 @@
 
 use crate::hangs::show_hang;
 use crate::said::properties_said;
-use byte_io::{Status, WriterSink};
+use byte_io::Status;
 use cli_args::RunOrder;
 use cli_report::{
     Audience, HANGS_OR_MUST_EXIT, RunChoices, RunFiles, bad_line, form_said, inputs_said, open_run,
-    say_why, show,
+    print_text, say_why, show,
 };
 use cli_run::{expect_said, explain_failure, has_failed, obey_run};
 use cmd_properties::{Form, Hangs, RunStatus, judged_text};
 use hint_breaks::breaks_advice;
 use program_named::open_named;
-use program_open::{CommandFault, write_text};
-use std::io;
+use program_open::CommandFault;
 use std::rt::Files;
 
 /// Runs a program under choices, those of its order, judges the order's properties, if it has some,
@@ -78,7 +77,7 @@ fn obey_judged<R: Files + AllocGlobal + Print + Eprint>(
     let Ok((text, status)) = answer else {
         return Err(say_why(rt, audience, files, CommandFault::Memory));
     };
-    match write_text(&mut WriterSink::new(io::writer(rt)), &text) {
+    match print_text(rt, &text) {
         Ok(()) => {
             if audience.is_told() {
                 match status {

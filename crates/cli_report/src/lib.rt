@@ -22,6 +22,7 @@ pub use report::{
 };
 pub use run_choices::RunChoices;
 pub use said::{form_said, inputs_said, rule_said};
+pub use standard_output::{StandardOutput, print_answer, print_text};
 
 mod arguments;
 mod audience;
@@ -35,3 +36,4 @@ mod progress_line;
 mod report;
 mod run_choices;
 mod said;
+mod standard_output;

@@ -80,10 +80,13 @@ pub fn refuse(rt: &(impl Print + Eprint), fault: &LineFault) -> Status {
             let printed = error.print(rt);
             if error.use_stderr() {
                 Status::BadLine
-            } else if printed.is_err() {
-                say(rt, CommandFault::Write)
             } else {
-                Status::Done
+                match printed {
+                    Err(error) if error.kind() != io::ErrorKind::BrokenPipe => {
+                        say(rt, CommandFault::Write)
+                    }
+                    Ok(()) | Err(_) => Status::Done,
+                }
             }
         }
         LineFault::NoCommand => bad_line(

@@ -1,15 +1,13 @@
 //! Runs `run`.
 
-use byte_io::{Status, WriterSink};
+use byte_io::Status;
 use cli_args::RunOrder;
 use cli_report::{
     Audience, EndsTold, Explained, RunChoices, RunFiles, explain_ends, form_said, inputs_said,
-    open_run, read_again, rule_said, say_why,
+    open_run, print_answer, read_again, rule_said, say_why,
 };
 use cmd_run::{Exit, Expect, run_engine};
 use object_library::Kind;
-use program_open::deliver;
-use std::io;
 use std::rt::Files;
 
 /// Runs a program under choices, those of its order. The program, and the file of the choices if
@@ -26,7 +24,7 @@ pub fn obey_run<R: Files + AllocGlobal + Print + Eprint>(
     let form = form_said(order.hex);
     let (mut program, mut source) = open_run(rt, audience, order.file, choices)?;
     let answer = run_engine(rt.alloc(), form, &inputs, expect, &mut program, &mut source);
-    match deliver(&mut WriterSink::new(io::writer(rt)), answer) {
+    match print_answer(rt, answer) {
         Ok(status) => {
             if has_failed(status) && audience.is_told() {
                 let _ = explain_failure(rt, order, &inputs, choices, expect.rule);

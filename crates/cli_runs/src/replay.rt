@@ -2,16 +2,15 @@
 
 use crate::exiting::exit_of;
 use crate::history_hint::{history_advice, is_explained};
-use byte_io::{Status, WriterSink};
+use byte_io::Status;
 use cli_orders::ReplayOrder;
 use cli_report::{
-    Audience, EndsTold, Explained, RunChoices, RunFiles, inputs_said, open_both, read_again,
-    rule_said, say_why, show,
+    Audience, EndsTold, Explained, RunChoices, RunFiles, inputs_said, open_both, print_answer,
+    read_again, rule_said, say_why, show,
 };
 use cmd_replay::replay_engine;
 use outcome::Expect;
-use program_open::{ProgramForm, deliver};
-use std::io;
+use program_open::ProgramForm;
 use std::rt::Files;
 
 /// Runs a program under a history. Both files are opened before either is read. The
@@ -40,7 +39,7 @@ pub fn obey_replay<R: Files + AllocGlobal + Print + Eprint>(
         choices: RunChoices::File(order.history),
         harts: inputs.len(),
     };
-    match deliver(&mut WriterSink::new(io::writer(rt)), answer) {
+    match print_answer(rt, answer) {
         Ok(status) => {
             if is_explained(status, audience) {
                 let _ = explain_ends(rt, order, inputs.as_slice(), expect);

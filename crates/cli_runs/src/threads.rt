@@ -5,20 +5,19 @@ ghost use Rattle.std.specs.Prelude.{◌^◌, ◌-◌, ◌<◌};
 use crate::exiting::exit_of;
 use crate::history_hint::{history_advice, is_explained};
 use crate::telling_gate::TellingGate;
-use byte_io::{Source, Status, WriterSink};
+use byte_io::{Source, Status};
 use cli_args::{LineFault, read_inputs, read_number};
 use cli_orders::{Locks, ThreadsOrder, read_plan};
 use cli_report::{
     Audience, EndsTold, Explained, OutputFault, OutputFile, RunFiles, TEXT_MODE, bad_line,
-    cannot_write, is_same_file, open_one, out_of_memory, read_again, read_rule, refuse, say,
-    say_why, show, would_overwrite,
+    cannot_write, is_same_file, open_one, out_of_memory, print_text, read_again, read_rule, refuse,
+    say, say_why, show, would_overwrite,
 };
 use cmd_threads::{HistoryUse, ThreadsAnswer, ThreadsTask, banked_engine, threads_engine};
 use outcome::Expect;
 use program_open::{CommandFault, write_text};
 use std::alloc::Global;
 use std::collections::BTreeSet;
-use std::io;
 use std::rt::Files;
 use std::sync::Wait;
 use std::thread::Threads;
@@ -128,10 +127,7 @@ fn write_answer<R: Files + AllocGlobal + Print + Eprint>(
     if let Some(path) = order.history {
         write_history(rt, path, answer.history.as_bytes())?;
     }
-    match write_text(
-        &mut WriterSink::new(io::writer(rt)),
-        answer.lines.as_bytes(),
-    ) {
+    match print_text(rt, answer.lines.as_bytes()) {
         Ok(()) => {
             if is_explained(answer.status, audience)
                 || (audience.is_told() && is_any_running(answer))

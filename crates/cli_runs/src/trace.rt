@@ -4,17 +4,17 @@ ghost use Rattle.std.specs.Prelude.{◌-◌, ◌<◌, ◌^◌};
 
 use crate::trace_plan::read_trace_plan;
 use crate::word::{advice_for, traced_word};
-use byte_io::{MemorySource, ReadFault, Source, Status, WriterSink, read_all};
+use byte_io::{MemorySource, ReadFault, Source, Status, read_all};
 use cli_orders::TraceOrder;
 use cli_report::{
-    Audience, RunChoices, RunFiles, bad_line, form_said, inputs_said, open_run, say_why,
+    Audience, RunChoices, RunFiles, StandardOutput, bad_line, form_said, inputs_said, open_run,
+    say_why,
 };
 use cmd_trace::{TracePlan, trace_engine};
 use machine::Inputs;
 use program_named::{NamedProgram, read_named};
 use program_open::{CommandFault, Input};
 use std::alloc::Global;
-use std::io;
 use std::rt::Files;
 
 /// Prints what each of the choices of a run did, or those alone that access the order's word. The
@@ -70,9 +70,10 @@ fn print_trace<R: Files + AllocGlobal + Print + Eprint, P: Source, C: Source>(
     requires choices_count { C.failures choices.old < 2 ^ 64 - 1 }
 {
     let (alloc, form, plan) = (rt.alloc(), asked.files.form, asked.plan);
-    let mut sink = WriterSink::new(io::writer(rt));
+    let mut sink = StandardOutput::new(rt);
     match trace_engine(alloc, form, plan, asked.inputs, program, choices, &mut sink) {
         Ok(status) => Ok(status),
+        Err(CommandFault::Write) if !sink.has_reader() => Ok(Status::Done),
         Err(fault) => Err(say_why(rt, audience, asked.files, fault)),
     }
 }
