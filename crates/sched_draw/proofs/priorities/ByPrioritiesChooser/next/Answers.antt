@@ -3,7 +3,7 @@ use Rattle.std.specs.List.{All}
 use Rattle.hart_step.specs.Hart.{hart_of}
 use Rattle.machine.specs.declared.choice.Choice.{Choice}
 use Rattle.sched_draw.specs.Drawn.{drawing, watch_of, drawing_watched}
-use Rattle.sched_draw.specs.Priorities.{WatchedDrawing, after_priority_choice, next_priority_choice, spinning_fallen}
+use Rattle.sched_draw.specs.Priorities.{WatchedDrawing, after_priority_choice, next_priority_choice, waiting_fallen}
 use Rattle.sched_draw.proofs.PriorityLemmas.{chosen_there, drawn-next, gone_on, next-below, next-hart, watched-below}
 use Rattle.sched_draw.proofs.priorities.ByPrioritiesChooser.next.Goals as goal
 
@@ -21,20 +21,20 @@ returns-clause-chooses g c = λ n w stand.
     let is = c.in_ok-choice.ensures.choice
     ∙ ap (λ p. next_priority_choice c.args.self.now.refusals harts (drawing p)) c.deref_mut.ensures.value in
     drawn-next c.args.self.now.refusals c.args.step n (drawing_watched c.args.self.now)
-    (record { drawing = drawing c.let_spinning_fall.new.self; watch = option_map watch_of c.look-does_spin.new.watch })
+    (record { drawing = drawing c.let_waiting_fall.new.self; watch = option_map watch_of c.waits-does_wait.new.watch })
     w harts c.in_ok-choice.choice stand is
     (gone_on c.args.step harts (drawing_watched c.args.self.now) c.in_ok-choice.choice.hart (hart_of c.index-harts-choice.result)
-    (drawing c.next_choice.new.self) (drawing c.let_spinning_fall.new.self) c.look-does_spin.result
-    (option_map watch_of c.look-does_spin.new.watch)
+    (drawing c.next_choice.new.self) (drawing c.let_waiting_fall.new.self) c.waits-does_wait.result
+    (option_map watch_of c.waits-does_wait.new.watch)
     (next-hart c.args.self.now.refusals harts (drawing c.args.self.now.priorities.value) c.in_ok-choice.choice is)
     (chosen_there c.args.harts.now c.in_ok-choice.choice.hart c.index-harts-choice.result
     (subst (λ (x : Choice). x.hart < length c.args.harts.now) (sym is)
     (next-below c.args.self.now.refusals (length c.args.harts.now) harts (drawing c.args.self.now.priorities.value) c.requires.0 c.requires.1))
     c.index-harts-choice.is)
     (c.in_ok-choice.ensures.state ∙ ap (λ p. after_priority_choice c.args.step harts (drawing p)) c.deref_mut.ensures.value)
-    c.look-does_spin.ensures.spins c.look-does_spin.ensures.watch
-    (c.in_ok-let_spinning_fall.ensures
-    ∙ ap (λ p. spinning_fallen c.look-does_spin.result c.in_ok-choice.choice.hart (drawing p)) c.deref_mut-2.ensures.value))
+    c.waits-does_wait.ensures.spins c.waits-does_wait.ensures.watch
+    (c.in_ok-let_waiting_fall.ensures
+    ∙ ap (λ p. waiting_fallen c.waits-does_wait.result c.in_ok-choice.choice.hart (drawing p)) c.deref_mut-2.ensures.value))
 
 pub returns-clause-within : goal.returns-clause-within
 returns-clause-within g c =
@@ -52,8 +52,8 @@ returns-clause-stays g c =
       c.requires.0,
       subst (λ (e : WatchedDrawing). All (λ h. h < length c.args.harts.now) e.drawing.order)
           (sym (gone_on c.args.step harts (drawing_watched c.args.self.now) c.in_ok-choice.choice.hart (hart_of c.index-harts-choice.result)
-          (drawing c.next_choice.new.self) (drawing c.let_spinning_fall.new.self) c.look-does_spin.result
-          (option_map watch_of c.look-does_spin.new.watch)
+          (drawing c.next_choice.new.self) (drawing c.let_waiting_fall.new.self) c.waits-does_wait.result
+          (option_map watch_of c.waits-does_wait.new.watch)
           (next-hart c.args.self.now.refusals harts (drawing c.args.self.now.priorities.value) c.in_ok-choice.choice is)
           (chosen_there c.args.harts.now c.in_ok-choice.choice.hart c.index-harts-choice.result
           (subst (λ (x : Choice). x.hart < length c.args.harts.now) (sym is)
@@ -61,8 +61,8 @@ returns-clause-stays g c =
           c.requires.0 c.requires.1))
           c.index-harts-choice.is)
           (c.in_ok-choice.ensures.state ∙ ap (λ p. after_priority_choice c.args.step harts (drawing p)) c.deref_mut.ensures.value)
-          c.look-does_spin.ensures.spins c.look-does_spin.ensures.watch
-          (c.in_ok-let_spinning_fall.ensures
-          ∙ ap (λ p. spinning_fallen c.look-does_spin.result c.in_ok-choice.choice.hart (drawing p)) c.deref_mut-2.ensures.value)))
+          c.waits-does_wait.ensures.spins c.waits-does_wait.ensures.watch
+          (c.in_ok-let_waiting_fall.ensures
+          ∙ ap (λ p. waiting_fallen c.waits-does_wait.result c.in_ok-choice.choice.hart (drawing p)) c.deref_mut-2.ensures.value)))
           (watched-below (length c.args.harts.now) c.args.step harts (drawing_watched c.args.self.now) c.requires.0 c.requires.1),
     )
