@@ -96,28 +96,22 @@ left_behind place harts d e hart word g first took is =
     ∙ ap {A = ℕ × Lcg} {B = PriorityDrawing} (λ p. record { order = order_after place (first_running harts d.order) d; points = d.points; generator = p.1 }) took
 
 -- ---- the chosen hart, which may spin
-pub next-hart : (refusals : Refusals) (harts : List HartValue) (d : PriorityDrawing) (c : Choice) → c ≡ next_priority_choice refusals harts d
+next-hart : (refusals : Refusals) (harts : List HartValue) (d : PriorityDrawing) (c : Choice) → c ≡ next_priority_choice refusals harts d
     → c.hart ≡ first_running harts d.order
 unfolding next_priority_choice
 next-hart refusals harts d c is = ap (λ (x : Choice). x.hart) is
 
--- the state of a hart that is chosen
-pub chosen_there : (harts : List Hart) (i : ℕ) (h : Hart) → i < length harts → h ≡ get_or harts i h
-    → slice_get (map hart_of harts) i ≡ Some (hart_of h)
-chosen_there harts i h below is =
-    slice_get-map hart_of harts i ∙ ap (option_map hart_of) (slice_get-get_or harts i h below ∙ ap Some (sym is))
-
-pub gone_on : (place : ℕ) (w : World) (d : WatchedDrawing) (hart : ℕ) (now : HartValue) (e f : PriorityDrawing) (does : Bool)
-    (watch : Option WatchValue) → hart ≡ first_running w.harts d.drawing.order → slice_get w.harts hart ≡ Some now
-    → e ≡ after_priority_choice place w.harts d.drawing → does ≡ (spins d.watch hart now || pauses w.memory now)
-    → watch ≡ Some (watch_after d.watch hart now)
-    → f ≡ waiting_fallen does hart e → record { drawing = f; watch = watch } ≡ after_watched_choice place w d
+pub gone_on : (refusals : Refusals) (place : ℕ) (w : World) (d : WatchedDrawing) (c : Choice) (now : HartValue) (e f : PriorityDrawing)
+    (does : Bool) (watch : Option WatchValue) → c ≡ next_priority_choice refusals w.harts d.drawing → slice_get w.harts c.hart ≡ Some now
+    → e ≡ after_priority_choice place w.harts d.drawing → does ≡ (spins d.watch c.hart now || pauses w.memory now)
+    → watch ≡ Some (watch_after d.watch c.hart now)
+    → f ≡ waiting_fallen does c.hart e → record { drawing = f; watch = watch } ≡ after_watched_choice place w d
 unfolding after_watched_choice
-gone_on place w d hart now e f does watch first there after waiting watched is =
+gone_on refusals place w d c now e f does watch choice there after waiting watched is =
     ap₂ {A = PriorityDrawing} {B = Option WatchValue} {C = WatchedDrawing} (λ x y. record { drawing = x; watch = y })
-    (is ∙ ap₂ (λ b x. waiting_fallen b hart x) (waiting ∙ sym (ap (waits_there d.watch w.memory hart) there)) after)
-    (watched ∙ sym (ap (watched_there d.watch hart) there))
-    ∙ ap (λ h. after_choice_of h place w d) first
+    (is ∙ ap₂ (λ b x. waiting_fallen b c.hart x) (waiting ∙ sym (ap (waits_there d.watch w.memory c.hart) there)) after)
+    (watched ∙ sym (ap (watched_there d.watch c.hart) there))
+    ∙ ap (λ h. after_choice_of h place w d) (next-hart refusals w.harts d.drawing c choice)
 
 -- ---- the order has each hart
 points-order : (steps n : ℕ) (d : PriorityDrawing) → (with_points steps n d).order ≡ d.order
