@@ -215,7 +215,9 @@ impl<A: Allocator> Chooser for ByPriorities<A> {
         step: u64,
         machine: &Machine<S, B>,
     ) -> Result<Choice, AllocError> {
-        let choice = self.priorities.next_choice(step, machine.ends(), self.refusals)?;
+        let choice = self
+            .priorities
+            .next_choice(step, machine.ends(), self.refusals)?;
         let hart = machine.hart(choice.hart as usize);
         let does_wait = waits(&mut self.watch, choice.hart, hart, machine.store());
         self.priorities.let_waiting_fall(choice.hart, does_wait)?;

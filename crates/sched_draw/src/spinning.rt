@@ -121,12 +121,7 @@ fn pauses<S: Store>(store: &S, now: &Hart) -> bool
 
 /// Looks at a hart that is chosen, and returns whether it waits: it spins or pauses.
 #[inline]
-pub(crate) fn waits<S: Store>(
-    watch: &mut Option<Watch>,
-    hart: u32,
-    now: &Hart,
-    store: &S,
-) -> bool
+pub(crate) fn waits<S: Store>(watch: &mut Option<Watch>, hart: u32, now: &Hart, store: &S) -> bool
     ensures waits { result ≡ (spins (option_map watch_of watch.old) hart (hart_of now.now)
         || pauses (S.memory store.now) (hart_of now.now)) }
     ensures watch { option_map watch_of watch.new
