@@ -1,5 +1,5 @@
 -- Priorities: how they are drawn, and what is chosen by them.
-use Rattle.std.proofs.Common.{◌≡◌, ◌≢◌, ℕ, zero, suc, ◌+◌, ◌-◌, ◌%◌, ◌<◌, ◌≤◌, ◌==◌, Bool, true, false, not, List, [], ◌∷◌, ◌++◌, Option, Some, None, length, min, max, take, drop, filter, get_or, insert, map, option_map, refl, arith, ap, ap₂, sym, subst, ◌∙◌, mod-lt, true≢false, if◌then◌else◌, inl, inr, ◌⊎◌}
+use Rattle.std.proofs.Common.{◌≡◌, ◌≢◌, ℕ, zero, suc, ◌+◌, ◌-◌, ◌%◌, ◌<◌, ◌≤◌, ◌==◌, Bool, true, false, ◌||◌, not, List, [], ◌∷◌, ◌++◌, Option, Some, None, length, min, max, take, drop, filter, get_or, insert, map, option_map, refl, arith, ap, ap₂, sym, subst, ◌∙◌, mod-lt, true≢false, if◌then◌else◌, inl, inr, ◌⊎◌}
 use Rattle.std.proofs.lemmas.Bool.{eq-eqb, eqb-true, ne_eqb}
 use Rattle.std.proofs.lemmas.List.{take-append-drop, length_push}
 use Rattle.std.proofs.lemmas.List.Edits.{length-insert}
@@ -8,6 +8,7 @@ use Rattle.std.proofs.lemmas.Option.{slice_get-get_or, slice_get-map, slice_get_
 use Rattle.std.specs.List.{All, Contains, slice_get}
 use Rattle.rand_pcg.specs.Lcg.{Lcg}
 use Rattle.rand_pcg.specs.Pcg.{pcg32}
+use Rattle.mem_store.specs.Memory.{Memory}
 use Rattle.hart_step.specs.Hart.{HartValue, hart_of}
 use Rattle.hart_step.specs.declared.hart.Hart.{Hart}
 use Rattle.machine.specs.Running.{goes, runs}
@@ -16,13 +17,13 @@ use Rattle.machine.specs.declared.choice.Choice.{Choice}
 use Rattle.machine.proofs.RunLaws.{run_length}
 use Rattle.sched_draw.specs.Seeds.{generator_of}
 use Rattle.sched_draw.specs.Refusing.{is_refused}
-use Rattle.sched_draw.specs.Spinning.{WatchValue, spins, watch_after}
+use Rattle.sched_draw.specs.Spinning.{WatchValue, spins, pauses, watch_after}
 use Rattle.sched_draw.specs.ChangePoints.{places_of}
 use Rattle.sched_draw.specs.declared.change_points.ChangePoints.{ChangePoints}
 use Rattle.sched_draw.specs.declared.change_points.ChangePoints.TheVariants.{Anywhere, Within}
 use Rattle.sched_draw.specs.declared.steps.Steps.{Steps}
 use Rattle.sched_draw.specs.declared.refusals.Refusals.{Refusals}
-use Rattle.sched_draw.specs.Priorities.{PriorityDrawing, with_priority_hart, with_harts, with_point, with_points, priority_drawing, first_running, next_priority_choice, fallen, is_point, order_after, after_priority_choice, WatchedDrawing, spins_there, watched_there, spinning_fallen, after_choice_of, after_watched_choice, watched_drawing, priority_choices_drawn, priority_choices, NeverWaits}
+use Rattle.sched_draw.specs.Priorities.{PriorityDrawing, with_priority_hart, with_harts, with_point, with_points, priority_drawing, first_running, next_priority_choice, fallen, is_point, order_after, after_priority_choice, WatchedDrawing, spins_there, pauses_there, waits_there, watched_there, waiting_fallen, after_choice_of, after_watched_choice, watched_drawing, priority_choices_drawn, priority_choices, NeverWaits, GivesWay}
 
 -- ---- drawing
 pub hart_placed : (d : PriorityDrawing) (hart word n : ℕ) (g : Lcg) (order : List ℕ) → (word, g) ≡ pcg32 d.generator → n ≡ length d.order
@@ -95,27 +96,22 @@ left_behind place harts d e hart word g first took is =
     ∙ ap {A = ℕ × Lcg} {B = PriorityDrawing} (λ p. record { order = order_after place (first_running harts d.order) d; points = d.points; generator = p.1 }) took
 
 -- ---- the chosen hart, which may spin
-pub next-hart : (refusals : Refusals) (harts : List HartValue) (d : PriorityDrawing) (c : Choice) → c ≡ next_priority_choice refusals harts d
+next-hart : (refusals : Refusals) (harts : List HartValue) (d : PriorityDrawing) (c : Choice) → c ≡ next_priority_choice refusals harts d
     → c.hart ≡ first_running harts d.order
 unfolding next_priority_choice
 next-hart refusals harts d c is = ap (λ (x : Choice). x.hart) is
 
--- the state of a hart that is chosen
-pub chosen_there : (harts : List Hart) (i : ℕ) (h : Hart) → i < length harts → h ≡ get_or harts i h
-    → slice_get (map hart_of harts) i ≡ Some (hart_of h)
-chosen_there harts i h below is =
-    slice_get-map hart_of harts i ∙ ap (option_map hart_of) (slice_get-get_or harts i h below ∙ ap Some (sym is))
-
-pub gone_on : (place : ℕ) (harts : List HartValue) (d : WatchedDrawing) (hart : ℕ) (now : HartValue) (e f : PriorityDrawing) (does : Bool)
-    (watch : Option WatchValue) → hart ≡ first_running harts d.drawing.order → slice_get harts hart ≡ Some now
-    → e ≡ after_priority_choice place harts d.drawing → does ≡ spins d.watch hart now → watch ≡ Some (watch_after d.watch hart now)
-    → f ≡ spinning_fallen does hart e → record { drawing = f; watch = watch } ≡ after_watched_choice place harts d
+pub gone_on : (refusals : Refusals) (place : ℕ) (w : World) (d : WatchedDrawing) (c : Choice) (now : HartValue) (e f : PriorityDrawing)
+    (does : Bool) (watch : Option WatchValue) → c ≡ next_priority_choice refusals w.harts d.drawing → slice_get w.harts c.hart ≡ Some now
+    → e ≡ after_priority_choice place w.harts d.drawing → does ≡ (spins d.watch c.hart now || pauses w.memory now)
+    → watch ≡ Some (watch_after d.watch c.hart now)
+    → f ≡ waiting_fallen does c.hart e → record { drawing = f; watch = watch } ≡ after_watched_choice place w d
 unfolding after_watched_choice
-gone_on place harts d hart now e f does watch first there after spin watched is =
+gone_on refusals place w d c now e f does watch choice there after waiting watched is =
     ap₂ {A = PriorityDrawing} {B = Option WatchValue} {C = WatchedDrawing} (λ x y. record { drawing = x; watch = y })
-    (is ∙ ap₂ (λ b x. spinning_fallen b hart x) (spin ∙ sym (ap (spins_there d.watch hart) there)) after)
-    (watched ∙ sym (ap (watched_there d.watch hart) there))
-    ∙ ap (λ h. after_choice_of h place harts d) first
+    (is ∙ ap₂ (λ b x. waiting_fallen b c.hart x) (waiting ∙ sym (ap (waits_there d.watch w.memory c.hart) there)) after)
+    (watched ∙ sym (ap (watched_there d.watch c.hart) there))
+    ∙ ap (λ h. after_choice_of h place w d) (next-hart refusals w.harts d.drawing c choice)
 
 -- ---- the order has each hart
 points-order : (steps n : ℕ) (d : PriorityDrawing) → (with_points steps n d).order ≡ d.order
@@ -311,33 +307,33 @@ after-keeps place harts d k there = either (is_point place d.points)
     either true = fallen-keeps (first_running harts d.order) d.order k there
     either false = there
 
--- where the chosen hart may fall once more, since it spins
-spinning-keeps : (does : Bool) (hart : ℕ) (d : PriorityDrawing) (k : ℕ) → Contains d.order k → Contains (spinning_fallen does hart d).order k
-spinning-keeps true hart d k there = fallen-keeps hart d.order k there
-spinning-keeps false hart d k there = there
+-- where the chosen hart may fall once more, since it waits
+waiting-keeps : (does : Bool) (hart : ℕ) (d : PriorityDrawing) (k : ℕ) → Contains d.order k → Contains (waiting_fallen does hart d).order k
+waiting-keeps true hart d k there = fallen-keeps hart d.order k there
+waiting-keeps false hart d k there = there
 
-watched-keeps : (place : ℕ) (harts : List HartValue) (d : WatchedDrawing) (k : ℕ) → Contains d.drawing.order k
-    → Contains (after_watched_choice place harts d).drawing.order k
+watched-keeps : (place : ℕ) (w : World) (d : WatchedDrawing) (k : ℕ) → Contains d.drawing.order k
+    → Contains (after_watched_choice place w d).drawing.order k
 unfolding after_watched_choice
-watched-keeps place harts d k there =
-    let hart = first_running harts d.drawing.order in
-    spinning-keeps (spins_there d.watch hart (slice_get harts hart)) hart (after_priority_choice place harts d.drawing) k
-    (after-keeps place harts d.drawing k there)
+watched-keeps place w d k there =
+    let hart = first_running w.harts d.drawing.order in
+    waiting-keeps (waits_there d.watch w.memory hart (slice_get w.harts hart)) hart (after_priority_choice place w.harts d.drawing) k
+    (after-keeps place w.harts d.drawing k there)
 
-spinning-below : (n : ℕ) (does : Bool) (hart : ℕ) (d : PriorityDrawing) → hart < n → All (λ h. h < n) d.order
-    → All (λ h. h < n) (spinning_fallen does hart d).order
-spinning-below n true hart d there all =
+waiting-below : (n : ℕ) (does : Bool) (hart : ℕ) (d : PriorityDrawing) → hart < n → All (λ h. h < n) d.order
+    → All (λ h. h < n) (waiting_fallen does hart d).order
+waiting-below n true hart d there all =
     All-push (λ h. h < n) (filter (λ other. not (other == hart)) d.order) hart
     (All-filter (λ other. not (other == hart)) (λ h. h < n) d.order all) there
-spinning-below n false hart d there all = all
+waiting-below n false hart d there all = all
 
-pub watched-below : (n place : ℕ) (harts : List HartValue) (d : WatchedDrawing) → 0 < n → All (λ h. h < n) d.drawing.order
-    → All (λ h. h < n) (after_watched_choice place harts d).drawing.order
+pub watched-below : (n place : ℕ) (w : World) (d : WatchedDrawing) → 0 < n → All (λ h. h < n) d.drawing.order
+    → All (λ h. h < n) (after_watched_choice place w d).drawing.order
 unfolding after_watched_choice
-watched-below n place harts d some all =
-    let hart = first_running harts d.drawing.order in
-    spinning-below n (spins_there d.watch hart (slice_get harts hart)) hart (after_priority_choice place harts d.drawing)
-    (first-below n harts d.drawing.order some all) (after-below n place harts d.drawing some all)
+watched-below n place w d some all =
+    let hart = first_running w.harts d.drawing.order in
+    waiting-below n (waits_there d.watch w.memory hart (slice_get w.harts hart)) hart (after_priority_choice place w.harts d.drawing)
+    (first-below n w.harts d.drawing.order some all) (after-below n place w.harts d.drawing some all)
 
 -- ---- laws
 runs-there : (harts : List HartValue) (k : ℕ) → runs harts k ≡ true → k < length harts
@@ -358,8 +354,8 @@ unfolding priority_choices_drawn next_priority_choice
 never refusals zero place d w each = tt
 never refusals (suc steps) place d w each = (
   λ k going. first-runs w.harts d.drawing.order k (each k (runs-there w.harts k going)) going,
-  never refusals steps (place + 1) (after_watched_choice place w.harts d) (step w (next_priority_choice refusals w.harts d.drawing))
-      (λ k below. watched-keeps place w.harts d k
+  never refusals steps (place + 1) (after_watched_choice place w d) (step w (next_priority_choice refusals w.harts d.drawing))
+      (λ k below. watched-keeps place w d k
       (each k (subst (λ n. k < n) (step_length w (next_priority_choice refusals w.harts d.drawing)) below))),
 )
 
@@ -378,18 +374,18 @@ last_waits hart other order later has differs going same =
     (filter-keeps (λ o. not (o == hart)) order other (ap not (ne_eqb other hart differs)) has) going in
     true≢false (sym among ∙ ap not (eq-eqb (first_running later (front ++ hart ∷ [])) hart same))
 
--- where it falls at a change point, or since it spins
-pub falls_at_point : (refusals : Refusals) (place other : ℕ) (harts later : List HartValue) (d : WatchedDrawing)
+-- where it falls at a change point, or since it waits
+pub falls_at_point : (refusals : Refusals) (place other : ℕ) (w : World) (later : List HartValue) (d : WatchedDrawing)
     → is_point place d.drawing.points ≡ true
-    → Contains d.drawing.order other → other ≢ (next_priority_choice refusals harts d.drawing).hart → runs later other ≡ true
-    → (next_priority_choice refusals later (after_watched_choice place harts d).drawing).hart
-    ≢ (next_priority_choice refusals harts d.drawing).hart
+    → Contains d.drawing.order other → other ≢ (next_priority_choice refusals w.harts d.drawing).hart → runs later other ≡ true
+    → (next_priority_choice refusals later (after_watched_choice place w d).drawing).hart
+    ≢ (next_priority_choice refusals w.harts d.drawing).hart
 unfolding next_priority_choice after_watched_choice after_priority_choice
-falls_at_point refusals place other harts later d there has differs going =
-    either (spins_there d.watch hart (slice_get harts hart))
+falls_at_point refusals place other w later d there has differs going =
+    either (waits_there d.watch w.memory hart (slice_get w.harts hart))
   where
     hart : ℕ
-    hart = first_running harts d.drawing.order
+    hart = first_running w.harts d.drawing.order
 
     order : List ℕ
     order = order_after place hart d.drawing
@@ -404,40 +400,92 @@ falls_at_point refusals place other harts later d there has differs going =
     either true = last_waits hart other order later kept differs going
     either false = λ same. last_waits hart other d.drawing.order later has differs going (ap (first_running later) (sym is) ∙ same)
 
-pub falls_since_it_spins : (refusals : Refusals) (place other : ℕ) (harts later : List HartValue) (d : WatchedDrawing)
-    → spins_there d.watch (next_priority_choice refusals harts d.drawing).hart
-    (slice_get harts (next_priority_choice refusals harts d.drawing).hart) ≡ true
-    → Contains d.drawing.order other → other ≢ (next_priority_choice refusals harts d.drawing).hart → runs later other ≡ true
-    → (next_priority_choice refusals later (after_watched_choice place harts d).drawing).hart
-    ≢ (next_priority_choice refusals harts d.drawing).hart
+falls_since_it_waits : (refusals : Refusals) (place other : ℕ) (w : World) (later : List HartValue) (d : WatchedDrawing)
+    → waits_there d.watch w.memory (next_priority_choice refusals w.harts d.drawing).hart
+    (slice_get w.harts (next_priority_choice refusals w.harts d.drawing).hart) ≡ true
+    → Contains d.drawing.order other → other ≢ (next_priority_choice refusals w.harts d.drawing).hart → runs later other ≡ true
+    → (next_priority_choice refusals later (after_watched_choice place w d).drawing).hart
+    ≢ (next_priority_choice refusals w.harts d.drawing).hart
 unfolding next_priority_choice after_watched_choice
-falls_since_it_spins refusals place other harts later d does has differs going =
-    let hart = first_running harts d.drawing.order in
-    let e = after_priority_choice place harts d.drawing in
-    let is : (spinning_fallen (spins_there d.watch hart (slice_get harts hart)) hart e).order ≡ fallen hart e.order =
+falls_since_it_waits refusals place other w later d does has differs going =
+    let hart = first_running w.harts d.drawing.order in
+    let e = after_priority_choice place w.harts d.drawing in
+    let is : (waiting_fallen (waits_there d.watch w.memory hart (slice_get w.harts hart)) hart e).order ≡ fallen hart e.order =
     ap (λ b. if b then fallen hart e.order else e.order) does in
-    λ same. last_waits hart other e.order later (after-keeps place harts d.drawing other has) differs going
+    λ same. last_waits hart other e.order later (after-keeps place w.harts d.drawing other has) differs going
     (ap (first_running later) (sym is) ∙ same)
+
+-- it waits since it spins, or since it pauses
+waits-left : (b c : Bool) → b ≡ true → (b || c) ≡ true
+waits-left b c does = ap (λ x. x || c) does
+
+waits-right : (b c : Bool) → c ≡ true → (b || c) ≡ true
+waits-right true c does = refl
+waits-right false c does = does
+
+pub falls_since_it_spins : (refusals : Refusals) (place other : ℕ) (w : World) (later : List HartValue) (d : WatchedDrawing)
+    → spins_there d.watch (next_priority_choice refusals w.harts d.drawing).hart
+    (slice_get w.harts (next_priority_choice refusals w.harts d.drawing).hart) ≡ true
+    → Contains d.drawing.order other → other ≢ (next_priority_choice refusals w.harts d.drawing).hart → runs later other ≡ true
+    → (next_priority_choice refusals later (after_watched_choice place w d).drawing).hart
+    ≢ (next_priority_choice refusals w.harts d.drawing).hart
+falls_since_it_spins refusals place other w later d does =
+    let hart = (next_priority_choice refusals w.harts d.drawing).hart in
+    let there = slice_get w.harts hart in
+    falls_since_it_waits refusals place other w later d (waits-left (spins_there d.watch hart there) (pauses_there w.memory there) does)
+
+pub falls_since_it_pauses : (refusals : Refusals) (place other : ℕ) (w : World) (later : List HartValue) (d : WatchedDrawing)
+    → pauses_there w.memory (slice_get w.harts (next_priority_choice refusals w.harts d.drawing).hart) ≡ true
+    → Contains d.drawing.order other → other ≢ (next_priority_choice refusals w.harts d.drawing).hart → runs later other ≡ true
+    → (next_priority_choice refusals later (after_watched_choice place w d).drawing).hart
+    ≢ (next_priority_choice refusals w.harts d.drawing).hart
+falls_since_it_pauses refusals place other w later d does =
+    let hart = (next_priority_choice refusals w.harts d.drawing).hart in
+    let there = slice_get w.harts hart in
+    falls_since_it_waits refusals place other w later d (waits-right (spins_there d.watch hart there) (pauses_there w.memory there) does)
+
+-- in a run a hart that pauses isn't chosen next, while another one runs
+gives : (refusals : Refusals) (steps place : ℕ) (d : WatchedDrawing) (w : World)
+    → ((k : ℕ) → k < length w.harts → Contains d.drawing.order k)
+    → GivesWay w (priority_choices_drawn refusals place steps d w)
+unfolding priority_choices_drawn
+gives refusals zero place d w each = tt
+gives refusals (suc zero) place d w each = tt
+gives refusals (suc (suc steps)) place d w each = (
+  λ does other going differs.
+      falls_since_it_pauses refusals place other w later.harts d does
+      (each other (subst (λ n. other < n) (step_length w c) (runs-there later.harts other going))) differs going,
+  gives refusals (suc steps) (place + 1) (after_watched_choice place w d) later
+      (λ k below. watched-keeps place w d k (each k (subst (λ n. k < n) (step_length w c) below))),
+)
+  where
+    c : Choice
+    c = next_priority_choice refusals w.harts d.drawing
+
+    later : World
+    later = step w c
+
+pub gives_way : (w : World) (refusals : Refusals) (depth places steps seed : ℕ)
+    → GivesWay w (priority_choices w (length w.harts) depth places refusals steps seed)
+gives_way w refusals depth places steps seed =
+    gives refusals steps 0 (watched_drawing (length w.harts) depth places seed) w (λ k below. order-each (length w.harts) depth places seed k below)
 
 -- ---- one more choice at a time
 drawn-suc : (refusals : Refusals) (place n : ℕ) (d : WatchedDrawing) (w : World)
     → priority_choices_drawn refusals place (suc n) d w
     ≡ next_priority_choice refusals w.harts d.drawing
-    ∷ priority_choices_drawn refusals (place + 1) n (after_watched_choice place w.harts d) (step w (next_priority_choice refusals w.harts d.drawing))
+    ∷ priority_choices_drawn refusals (place + 1) n (after_watched_choice place w d) (step w (next_priority_choice refusals w.harts d.drawing))
 unfolding priority_choices_drawn
 drawn-suc refusals place n d w = refl
 
 -- the next choice of a run, and those after it
-pub drawn-next : (refusals : Refusals) (place n : ℕ) (d e : WatchedDrawing) (w : World) (harts : List HartValue) (c : Choice) → w.harts ≡ harts
-    → c ≡ next_priority_choice refusals harts d.drawing → e ≡ after_watched_choice place harts d
+pub drawn-next : (refusals : Refusals) (place n : ℕ) (d e : WatchedDrawing) (w : World) (c : Choice)
+    → c ≡ next_priority_choice refusals w.harts d.drawing → e ≡ after_watched_choice place w d
     → priority_choices_drawn refusals place (n + 1) d w ≡ c ∷ priority_choices_drawn refusals (place + 1) n e (step w c)
-drawn-next refusals place n d e w harts c stand choice state =
+drawn-next refusals place n d e w c choice state =
     let s : n + 1 ≡ suc n = omega arith in
-    let here : next_priority_choice refusals w.harts d.drawing ≡ c =
-    ap (λ hs. next_priority_choice refusals hs d.drawing) stand ∙ sym choice in
-    let there : after_watched_choice place w.harts d ≡ e = ap (λ hs. after_watched_choice place hs d) stand ∙ sym state in
     ap (λ k. priority_choices_drawn refusals place k d w) s ∙ drawn-suc refusals place n d w
-    ∙ ap₂ (λ x f. x ∷ priority_choices_drawn refusals (place + 1) n f (step w x)) here there
+    ∙ ap₂ (λ x f. x ∷ priority_choices_drawn refusals (place + 1) n f (step w x)) (sym choice) (sym state)
 
 -- each choice that is drawn names a hart that exists
 pub drawn-within : (refusals : Refusals) (n place steps : ℕ) (d : WatchedDrawing) (w : World) → 0 < n → All (λ h. h < n) d.drawing.order
@@ -446,10 +494,10 @@ unfolding priority_choices_drawn
 drawn-within refusals n place zero d w some all = All-nil (λ (c : Choice). c.hart < n)
 drawn-within refusals n place (suc steps) d w some all =
     let c = next_priority_choice refusals w.harts d.drawing in
-    let e = after_watched_choice place w.harts d in
+    let e = after_watched_choice place w d in
     All-cons (λ (c : Choice). c.hart < n) c (priority_choices_drawn refusals (place + 1) steps e (step w c))
     (next-below refusals n w.harts d.drawing some all)
-    (drawn-within refusals n (place + 1) steps e (step w c) some (watched-below n place w.harts d some all))
+    (drawn-within refusals n (place + 1) steps e (step w c) some (watched-below n place w d some all))
 
 -- ---- where change points lie
 pub points-in-run : (points : ChangePoints) (harts depth steps seed : ℕ) → 0 < steps
@@ -480,7 +528,7 @@ drawn-take refusals place (suc n) more d w =
     let s : suc n + more ≡ suc (n + more) = omega arith in
     let c = next_priority_choice refusals w.harts d.drawing in
     ap (λ k. take (suc n) (priority_choices_drawn refusals place k d w)) s
-    ∙ ap (λ cs. c ∷ cs) (drawn-take refusals (place + 1) n more (after_watched_choice place w.harts d) (step w c))
+    ∙ ap (λ cs. c ∷ cs) (drawn-take refusals (place + 1) n more (after_watched_choice place w d) (step w c))
 
 pub more-steps : (first : Steps) (w : World) (refusals : Refusals) (harts depth steps more seed : ℕ) → first.count ≤ steps
     → take steps (priority_choices w harts depth (places_of (Within first) (steps + more)) refusals (steps + more) seed)

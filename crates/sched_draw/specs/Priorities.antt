@@ -1,18 +1,19 @@
 -- Schedules by priorities: the harts have a random order, and the first of it that runs is chosen;
--- at change points, and where it spins, it falls to the end. After Burckhardt, Kothari, Musuvathi and Nagarakatte, "A
+-- at change points, and where it spins or pauses, it falls to the end. After Burckhardt, Kothari, Musuvathi and Nagarakatte, "A
 -- Randomized Scheduler with Probabilistic Guarantees of Finding Bugs", ASPLOS 2010. A choice is a
--- function of the seed, its step and the harts' states so far, so the schedule belongs to a run.
-use Rattle.std.specs.Prelude.{◌≡◌, ℕ, zero, suc, ◌+◌, ◌-◌, ◌%◌, ◌==◌, not, Bool, true, false, List, [], ◌∷◌, ◌++◌, length, filter, insert, if◌then◌else◌, Option, Some, None, slice_get}
+-- function of the seed, its step and the run so far, so the schedule belongs to a run.
+use Rattle.std.specs.Prelude.{◌≡◌, ℕ, zero, suc, ◌+◌, ◌-◌, ◌%◌, ◌==◌, ◌≢◌, not, ◌||◌, Bool, true, false, List, [], ◌∷◌, ◌++◌, length, filter, insert, if◌then◌else◌, Option, Some, None, slice_get}
 use Rattle.std.specs.List.{list_any}
 use Rattle.rand_pcg.specs.Lcg.{Lcg}
 use Rattle.rand_pcg.specs.Pcg.{pcg32}
+use Rattle.mem_store.specs.Memory.{Memory}
 use Rattle.hart_step.specs.Hart.{HartValue}
 use Rattle.machine.specs.Running.{runs}
 use Rattle.machine.specs.World.{World, step}
 use Rattle.machine.specs.declared.choice.Choice.{Choice}
 use Rattle.sched_draw.specs.Seeds.{generator_of}
 use Rattle.sched_draw.specs.Refusing.{is_refused}
-use Rattle.sched_draw.specs.Spinning.{WatchValue, spins, watch_after}
+use Rattle.sched_draw.specs.Spinning.{WatchValue, spins, pauses, watch_after}
 use Rattle.sched_draw.specs.declared.refusals.Refusals.{Refusals}
 
 -- the state of drawing: harts by priority, change points, and the generator of the next words
@@ -92,36 +93,45 @@ abbrev pub spins_there : Option WatchValue → ℕ → Option HartValue → Bool
 spins_there watch hart None = false
 spins_there watch hart (Some now) = spins watch hart now
 
+-- whether a hart that is there pauses
+abbrev pub pauses_there : Memory → Option HartValue → Bool
+pauses_there memory None = false
+pauses_there memory (Some now) = pauses memory now
+
 -- the watch after a choice of a hart, if it is there
 abbrev pub watched_there : Option WatchValue → ℕ → Option HartValue → Option WatchValue
 watched_there watch hart None = watch
 watched_there watch hart (Some now) = Some (watch_after watch hart now)
 
--- the state of drawing where a hart falls if it spins
-abbrev pub spinning_fallen : Bool → ℕ → PriorityDrawing → PriorityDrawing
-spinning_fallen does_spin hart d = record {
-  order = if does_spin then fallen hart d.order else d.order;
+-- whether a hart that is there waits: it spins or pauses
+abbrev pub waits_there : Option WatchValue → Memory → ℕ → Option HartValue → Bool
+waits_there watch memory hart there = spins_there watch hart there || pauses_there memory there
+
+-- the state of drawing where a hart falls if it waits
+abbrev pub waiting_fallen : Bool → ℕ → PriorityDrawing → PriorityDrawing
+waiting_fallen does_wait hart d = record {
+  order = if does_wait then fallen hart d.order else d.order;
   points = d.points;
   generator = d.generator;
 }
 
--- the state after the choice of a hart at a step: it falls too if it spins
-abbrev pub after_choice_of : ℕ → ℕ → List HartValue → WatchedDrawing → WatchedDrawing
-after_choice_of hart place harts d = record {
-  drawing = spinning_fallen (spins_there d.watch hart (slice_get harts hart)) hart (after_priority_choice place harts d.drawing);
-  watch = watched_there d.watch hart (slice_get harts hart);
+-- the state after the choice of a hart at a step: it falls too if it waits
+abbrev pub after_choice_of : ℕ → ℕ → World → WatchedDrawing → WatchedDrawing
+after_choice_of hart place world d = record {
+  drawing = waiting_fallen (waits_there d.watch world.memory hart (slice_get world.harts hart)) hart (after_priority_choice place world.harts d.drawing);
+  watch = watched_there d.watch hart (slice_get world.harts hart);
 }
 
--- the state after the choice at a step
-unfoldable pub after_watched_choice : ℕ → List HartValue → WatchedDrawing → WatchedDrawing
-after_watched_choice place harts d = after_choice_of (first_running harts d.drawing.order) place harts d
+-- the state after the choice at a step in a world
+unfoldable pub after_watched_choice : ℕ → World → WatchedDrawing → WatchedDrawing
+after_watched_choice place world d = after_choice_of (first_running world.harts d.drawing.order) place world d
 
 -- the next n choices of a run from a world and a step on, each made in the world before it
 unfoldable pub priority_choices_drawn : Refusals → ℕ → ℕ → WatchedDrawing → World → List Choice
 priority_choices_drawn refusals place zero d world = []
 priority_choices_drawn refusals place (suc steps) d world =
     next_priority_choice refusals world.harts d.drawing
-    ∷ priority_choices_drawn refusals (place + 1) steps (after_watched_choice place world.harts d) (step world (next_priority_choice refusals world.harts d.drawing))
+    ∷ priority_choices_drawn refusals (place + 1) steps (after_watched_choice place world d) (step world (next_priority_choice refusals world.harts d.drawing))
 
 -- the state at a seed, when no hart is watched yet
 abbrev pub watched_drawing : ℕ → ℕ → ℕ → ℕ → WatchedDrawing
@@ -137,3 +147,12 @@ abbrev pub NeverWaits : World → List Choice → Type 0
 NeverWaits world [] = Unit {0}
 NeverWaits world (c ∷ choices) =
     ((k : ℕ) → runs world.harts k ≡ true → runs world.harts c.hart ≡ true) × NeverWaits (step world c) choices
+
+-- in a run from a world the choice after one of a hart that pauses is of another hart, if one runs
+abbrev pub GivesWay : World → List Choice → Type 0
+GivesWay world [] = Unit {0}
+GivesWay world (c ∷ []) = Unit {0}
+GivesWay world (c ∷ next ∷ choices) =
+    (pauses_there world.memory (slice_get world.harts c.hart) ≡ true
+    → (other : ℕ) → runs (step world c).harts other ≡ true → other ≢ c.hart → next.hart ≢ c.hart)
+    × GivesWay (step world c) (next ∷ choices)

@@ -1,6 +1,9 @@
--- Harts that spin. A hart that is chosen again and again is compared with how it was some choices
--- before: with the same pc and registers it is likely to wait for something that hasn't changed.
+-- Harts that wait. One spins: a hart that is chosen again and again is compared with how it was some
+-- choices before, and with the same pc and registers it is likely to wait for something that hasn't
+-- changed. Another says so, by `pause`.
 use Rattle.std.specs.Prelude.{ℕ, zero, suc, ◌*◌, ◌-◌, ◌==◌, nat_lt, Bool, true, false, ◌&&◌, if◌then◌else◌, Option, Some, None}
+use Rattle.mem_store.specs.Memory.{Memory}
+use Rattle.mem_store.specs.Access.{fetched}
 use Rattle.hart_step.specs.Hart.{HartValue, Registers}
 use Rattle.machine.specs.Running.{is_running}
 
@@ -42,3 +45,16 @@ watch_after (Some w) hart now = if w.hart == hart then watch_continued now w els
 abbrev pub spins : Option WatchValue → ℕ → HartValue → Bool
 spins None hart now = false
 spins (Some w) hart now = w.hart == hart && is_back w.seen now
+
+-- the word of `pause`, 0x0100000F, which is `fence w,0` (Unprivileged ISA, "Zihintpause")
+abbrev pub pause_word : ℕ
+pause_word = 16_777_231
+
+-- whether a fetched word is that of `pause`
+abbrev pub is_pause : Option ℕ → Bool
+is_pause None = false
+is_pause (Some word) = word == pause_word
+
+-- whether a hart in a state is one that runs and comes to a `pause`
+unfoldable pub pauses : Memory → HartValue → Bool
+pauses memory now = is_running now.state && is_pause (fetched memory now.pc)

@@ -1,14 +1,14 @@
 //! The sources of a run's choices, one choice at a time.
 
-ghost use Rattle.std.specs.Prelude.{◌≡◌, ◌+◌, ◌<◌, ◌≤◌, ℕ, List, [], ◌∷◌, IfOk, length, map};
+ghost use Rattle.std.specs.Prelude.{◌≡◌, ◌+◌, ◌<◌, ◌≤◌, ℕ, List, [], ◌∷◌, IfOk, length};
 ghost use Rattle.std.specs.List.{All};
-ghost use Rattle.hart_step.specs.Hart.{hart_of};
+ghost use Rattle.machine.specs.Machine.{world};
 ghost use Rattle.machine.specs.World.{World, step as stepped};
 ghost use Rattle.machine.specs.declared.choice.Choice.{Choice};
 
-use hart_step::Hart;
-use machine::Choice;
-use std::alloc::AllocError;
+use machine::{Choice, Machine};
+use mem_store::Store;
+use std::alloc::{AllocError, Allocator};
 use std::ops::Range;
 
 /// A source of a run's choices. Each is asked for when its step comes.
@@ -19,13 +19,20 @@ pub trait Chooser: Drop {
     /// Whether it chooses among this number of harts.
     ghost IsFor: { Self → ℕ → Type 0 };
 
-    /// The choice at a step, given the harts' states. The only error is out of memory.
-    fn next(&mut self, step: u64, harts: &[Hart]) -> Result<Choice, AllocError>
-        requires { IsFor self.old (length harts.now) }
-        ensures chooses { IfOk result (λ choice. (n : ℕ) (w : World) → w.harts ≡ map hart_of harts.now
-            → choices self.old step (n + 1) w ≡ choice ∷ choices self.new (step + 1) n (stepped w choice)) }
-        ensures within { IfOk result (λ choice. choice.hart < length harts.now) }
-        ensures stays { IfOk result (λ _. IsFor self.new (length harts.now)) };
+    /// The choice at a step of a machine's run. The only error is out of memory.
+    fn next<S: Store, A: Allocator>(
+        &mut self,
+        step: u64,
+        machine: &Machine<S, A>,
+    ) -> Result<Choice, AllocError>
+        requires { IsFor self.old (length (world S.memory machine.now).harts) }
+        ensures chooses { IfOk result (λ choice. (n : ℕ)
+            → choices self.old step (n + 1) (world S.memory machine.now)
+            ≡ choice ∷ choices self.new (step + 1) n (stepped (world S.memory machine.now) choice)) }
+        ensures within { IfOk result (λ choice.
+            choice.hart < length (world S.memory machine.now).harts) }
+        ensures stays { IfOk result (λ _.
+            IsFor self.new (length (world S.memory machine.now).harts)) };
 
     /// The harts that it can choose from now on, of this number of harts.
     fn span(&self, harts: u32) -> Range<u32>
@@ -74,7 +81,11 @@ impl<D: Drawer> Chooser for Same<D> {
     ghost none = { λ c step _. D.none c.0 step };
 
     #[inline(always)]
-    fn next(&mut self, step: u64, _harts: &[Hart]) -> Result<Choice, AllocError> {
+    fn next<S: Store, A: Allocator>(
+        &mut self,
+        step: u64,
+        _machine: &Machine<S, A>,
+    ) -> Result<Choice, AllocError> {
         Ok(self.0.draw(step))
     }
 

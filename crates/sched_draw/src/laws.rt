@@ -8,7 +8,7 @@ ghost use Rattle.machine.specs.World.{World, run};
 ghost use Rattle.machine.specs.declared.choice.Choice.{Choice};
 ghost use Rattle.sched_draw.specs.Bursts as bursts;
 ghost use Rattle.sched_draw.specs.ChangePoints.{places_of};
-ghost use Rattle.sched_draw.specs.Priorities.{WatchedDrawing, priority_drawing, is_point, next_priority_choice, spins_there, after_watched_choice, priority_choices, NeverWaits};
+ghost use Rattle.sched_draw.specs.Priorities.{WatchedDrawing, priority_drawing, is_point, next_priority_choice, spins_there, pauses_there, after_watched_choice, priority_choices, NeverWaits, GivesWay};
 ghost use Rattle.sched_draw.specs.Refusing.{even_choices, is_refused, IsOneIn};
 ghost use Rattle.sched_draw.specs.Schedules.{drawn_choices};
 ghost use Rattle.sched_draw.specs.Seeds.{seeded_choices};
@@ -99,15 +99,28 @@ pub fn nothing_changes_once_all_have_stopped()
 /// A hart that falls is last: the next choice, whatever the harts' states by then, is not of it
 /// while another runs. It falls at a change point, and where it spins.
 pub fn a_hart_that_falls_waits()
-    ensures point { (refusals : Refusals) (place other : ℕ) (harts later : List HartValue) (d : WatchedDrawing)
+    ensures point { (refusals : Refusals) (place other : ℕ) (world : World) (later : List HartValue) (d : WatchedDrawing)
         → is_point place d.drawing.points ≡ true
-        → Contains d.drawing.order other → other ≢ (next_priority_choice refusals harts d.drawing).hart → runs later other ≡ true
-        → (next_priority_choice refusals later (after_watched_choice place harts d).drawing).hart
-        ≢ (next_priority_choice refusals harts d.drawing).hart }
-    ensures spins { (refusals : Refusals) (place other : ℕ) (harts later : List HartValue) (d : WatchedDrawing)
-        → spins_there d.watch (next_priority_choice refusals harts d.drawing).hart
-        (slice_get harts (next_priority_choice refusals harts d.drawing).hart) ≡ true
-        → Contains d.drawing.order other → other ≢ (next_priority_choice refusals harts d.drawing).hart → runs later other ≡ true
-        → (next_priority_choice refusals later (after_watched_choice place harts d).drawing).hart
-        ≢ (next_priority_choice refusals harts d.drawing).hart }
+        → Contains d.drawing.order other → other ≢ (next_priority_choice refusals world.harts d.drawing).hart → runs later other ≡ true
+        → (next_priority_choice refusals later (after_watched_choice place world d).drawing).hart
+        ≢ (next_priority_choice refusals world.harts d.drawing).hart }
+    ensures spins { (refusals : Refusals) (place other : ℕ) (world : World) (later : List HartValue) (d : WatchedDrawing)
+        → spins_there d.watch (next_priority_choice refusals world.harts d.drawing).hart
+        (slice_get world.harts (next_priority_choice refusals world.harts d.drawing).hart) ≡ true
+        → Contains d.drawing.order other → other ≢ (next_priority_choice refusals world.harts d.drawing).hart → runs later other ≡ true
+        → (next_priority_choice refusals later (after_watched_choice place world d).drawing).hart
+        ≢ (next_priority_choice refusals world.harts d.drawing).hart }
+{}
+
+/// A hart that comes to a `pause` falls too: whatever the state of drawing, the next choice is not
+/// of it while another runs. So in a run by priorities the choice after its `pause` is of another
+/// hart, if one runs then.
+pub fn a_hart_that_pauses_falls()
+    ensures falls { (refusals : Refusals) (place other : ℕ) (world : World) (later : List HartValue) (d : WatchedDrawing)
+        → pauses_there world.memory (slice_get world.harts (next_priority_choice refusals world.harts d.drawing).hart) ≡ true
+        → Contains d.drawing.order other → other ≢ (next_priority_choice refusals world.harts d.drawing).hart → runs later other ≡ true
+        → (next_priority_choice refusals later (after_watched_choice place world d).drawing).hart
+        ≢ (next_priority_choice refusals world.harts d.drawing).hart }
+    ensures run { (world : World) (refusals : Refusals) (depth places steps seed : ℕ)
+        → GivesWay world (priority_choices world (length world.harts) depth places refusals steps seed) }
 {}

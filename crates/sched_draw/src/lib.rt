@@ -7,9 +7,9 @@ pub use change_points::ChangePoints;
 pub use even::seeded_generator;
 pub use laws::{
     a_burst_begins_within_its_bounds, a_burst_is_of_one_hart, a_hart_that_falls_waits,
-    a_stopped_hart_waits, change_points_are_places, each_hart_has_a_place,
-    more_steps_change_nothing, never_refuses, nothing_changes_once_all_have_stopped,
-    one_in_1_refuses_each, usual_refusals,
+    a_hart_that_pauses_falls, a_stopped_hart_waits, change_points_are_places,
+    each_hart_has_a_place, more_steps_change_nothing, never_refuses,
+    nothing_changes_once_all_have_stopped, one_in_1_refuses_each, usual_refusals,
 };
 pub use limits::limits_of_draws;
 pub use listing::{list_run, list_schedule};

@@ -162,7 +162,7 @@ fn list_by<S: Store, A: Allocator, C: Chooser>(
     let mut chooser = chooser;
     let mut choices = Vec::with_capacity(alloc, steps as usize)?;
     'steps: for step in 0..steps {
-        let choice = chooser.next(step, machine.ends())?;
+        let choice = chooser.next(step, machine)?;
         machine.step(choice)?;
         choices.push(choice)?;
     }

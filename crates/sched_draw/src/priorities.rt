@@ -7,7 +7,7 @@ ghost use Rattle.sched_draw.specs.Priorities.{priority_drawing, fallen, order_af
 ghost use Rattle.std.specs.List.{All};
 ghost use Rattle.machine.specs.Running.{runs};
 ghost use Rattle.machine.specs.World.{World};
-ghost use Rattle.sched_draw.specs.Priorities.{priority_choices_drawn, priority_choices, spinning_fallen, after_watched_choice};
+ghost use Rattle.sched_draw.specs.Priorities.{priority_choices_drawn, priority_choices, waiting_fallen, after_watched_choice};
 ghost use Rattle.sched_draw.specs.Drawn.{drawing, drawing_watched};
 ghost use Rattle.sched_draw.specs.NoSteps.{no_priorities};
 
@@ -15,9 +15,10 @@ use crate::chooser::Chooser;
 use crate::even::seeded_generator;
 use crate::order::Depth;
 use crate::refusals::Refusals;
-use crate::spinning::{Watch, look};
+use crate::spinning::{Watch, waits};
 use hart_step::Hart;
-use machine::{Choice, runs};
+use machine::{Choice, Machine, runs};
+use mem_store::Store;
 use rand_core::utils::NextWord;
 use rand_pcg::Lcg64Xsh32;
 use std::alloc::{AllocError, Allocator};
@@ -132,11 +133,11 @@ impl<A: Allocator> Priorities<A> {
         Ok(())
     }
 
-    // Moves a hart that spins to the end of the order.
-    fn let_spinning_fall(&mut self, hart: u32, does_spin: bool) -> Result<(), AllocError>
-        ensures { IfOk result (λ _. drawing self.new ≡ spinning_fallen does_spin hart (drawing self.old)) }
+    // Moves a hart that waits to the end of the order.
+    fn let_waiting_fall(&mut self, hart: u32, does_wait: bool) -> Result<(), AllocError>
+        ensures { IfOk result (λ _. drawing self.new ≡ waiting_fallen does_wait hart (drawing self.old)) }
     {
-        if does_spin {
+        if does_wait {
             let_fall(&mut self.order, hart)?;
         }
         Ok(())
@@ -209,10 +210,17 @@ impl<A: Allocator> Chooser for ByPriorities<A> {
     ghost none = { λ p step w. no_priorities p.refusals step (drawing_watched p) w };
 
     #[inline(always)]
-    fn next(&mut self, step: u64, harts: &[Hart]) -> Result<Choice, AllocError> {
-        let choice = self.priorities.next_choice(step, harts, self.refusals)?;
-        let does_spin = look(&mut self.watch, choice.hart, &harts[choice.hart as usize]);
-        self.priorities.let_spinning_fall(choice.hart, does_spin)?;
+    fn next<S: Store, B: Allocator>(
+        &mut self,
+        step: u64,
+        machine: &Machine<S, B>,
+    ) -> Result<Choice, AllocError> {
+        let choice = self
+            .priorities
+            .next_choice(step, machine.ends(), self.refusals)?;
+        let hart = machine.hart(choice.hart as usize);
+        let does_wait = waits(&mut self.watch, choice.hart, hart, machine.store());
+        self.priorities.let_waiting_fall(choice.hart, does_wait)?;
         Ok(choice)
     }
 

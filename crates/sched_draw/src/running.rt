@@ -165,7 +165,7 @@ fn run_some<S: Store, A: Allocator, C: Chooser>(
         (world S.memory machine.new) (harts_of chosen.new)) }
 {
     'steps: for step in from..to {
-        let choice = chooser.next(step, machine.ends())?;
+        let choice = chooser.next(step, machine)?;
         chosen.add(choice.hart as usize);
         machine.step(choice)?;
     }

@@ -1,17 +1,24 @@
-//! Harts that spin. A hart that is chosen again and again is compared with how it was some choices
-//! before: with the same `pc` and registers it is likely to wait for something that hasn't changed.
+//! Harts that wait. One spins: a hart that is chosen again and again is compared with how it was some
+//! choices before, and with the same `pc` and registers it is likely to wait for something that
+//! hasn't changed. Another says so, by `pause`.
 
-ghost use Rattle.std.specs.Prelude.{◌≡◌, Some};
+ghost use Rattle.std.specs.Prelude.{◌≡◌, ◌||◌, true, Some, Ok};
 ghost use Rattle.std.specs.Option.{option_map};
 ghost use Rattle.hart_step.specs.Hart.{hart_of};
+ghost use Rattle.isa_table.specs.declared.instr.Instr.TheVariants.{Fence};
 ghost use Rattle.machine.specs.Running.{is_running};
 ghost use Rattle.sched_draw.specs.Drawn.{watch_of};
-ghost use Rattle.sched_draw.specs.Spinning.{is_back, same_registers, watch_begun, watch_continued, watch_after, spins};
+ghost use Rattle.sched_draw.specs.Spinning.{is_back, same_registers, watch_begun, watch_continued, watch_after, spins, pauses};
 
 use hart_step::{Hart, HartState};
+use isa_table::Instr;
+use mem_store::{FetchFault, Store};
 
 // At most so many choices of a hart don't change how it is remembered: a loop of 65 steps is noticed.
 const LONGEST: u32 = 64;
+
+// The word of `pause`, which is `fence w,0` (Unprivileged ISA, "Zihintpause").
+const PAUSE: u32 = 0x0100_000f;
 
 /// A hart that is watched.
 #[derive(Clone, Copy, Drop)]
@@ -88,8 +95,8 @@ impl Watch {
     }
 }
 
-/// Looks at a hart that is chosen, and returns whether it spins.
-pub(crate) fn look(watch: &mut Option<Watch>, hart: u32, now: &Hart) -> bool
+// Looks at a hart that is chosen, and returns whether it spins.
+fn look(watch: &mut Option<Watch>, hart: u32, now: &Hart) -> bool
     ensures spins { result ≡ spins (option_map watch_of watch.old) hart (hart_of now.now) }
     ensures watch { option_map watch_of watch.new
         ≡ Some (watch_after (option_map watch_of watch.old) hart (hart_of now.now)) }
@@ -103,4 +110,37 @@ pub(crate) fn look(watch: &mut Option<Watch>, hart: u32, now: &Hart) -> bool
     }
     *watch = Some(Watch::begin(hart, now));
     false
+}
+
+// Whether an instruction is a fence, as `pause` is.
+#[inline]
+fn is_fence(instruction: Result<Instr, FetchFault>) -> bool
+    ensures { instruction ≡ Ok (Fence 0 1 0 0 0) → result ≡ true }
+{
+    matches!(instruction, Ok(Instr::Fence { .. }))
+}
+
+// Whether a hart runs and comes to a `pause`. A memory has its instructions at hand, and its words
+// hardly, so the word is read only where there is a fence.
+#[inline]
+#[tactic(auto, unfolding(crate::specs::Spinning::pauses))]
+fn pauses<S: Store>(store: &S, now: &Hart) -> bool
+    ensures { result ≡ pauses (S.memory store.now) (hart_of now.now) }
+{
+    if !is_fence(store.instruction(now.pc)) {
+        return false;
+    }
+    is_running(now) && store.fetch(now.pc) == Some(PAUSE)
+}
+
+/// Looks at a hart that is chosen, and returns whether it waits: it spins or pauses.
+#[inline]
+pub(crate) fn waits<S: Store>(watch: &mut Option<Watch>, hart: u32, now: &Hart, store: &S) -> bool
+    ensures waits { result ≡ (spins (option_map watch_of watch.old) hart (hart_of now.now)
+        || pauses (S.memory store.now) (hart_of now.now)) }
+    ensures watch { option_map watch_of watch.new
+        ≡ Some (watch_after (option_map watch_of watch.old) hart (hart_of now.now)) }
+{
+    let does_spin = look(watch, hart, now);
+    does_spin || pauses(store, now)
 }

@@ -9,6 +9,9 @@ mod failure_tests;
 // Whether runs hang.
 #[cfg(test)]
 mod hang_tests;
+// Harts that say `pause`.
+#[cfg(test)]
+mod pause_tests;
 // What the tests share.
 #[cfg(test)]
 mod plain_runs;

@@ -1,6 +1,4 @@
-use Rattle.std.proofs.Common.{◌≡◌, ◌-◌, ◌+◌, refl, arith, ap, ◌∷◌, length, sym, subst, ◌∙◌}
-use Rattle.std.proofs.lemmas.List.{length-map}
-use Rattle.hart_step.specs.Hart.{hart_of}
+use Rattle.std.proofs.Common.{◌≡◌, ◌-◌, ◌+◌, refl, arith, ap, ◌∷◌, sym, subst, ◌∙◌}
 use Rattle.machine.specs.Machine.{world}
 use Rattle.sched_run.specs.Chosen.{harts_of}
 use Rattle.sched_draw.proofs.ChooserLemmas.{one_more}
@@ -17,11 +15,9 @@ pub steps-preserved : goal.steps-preserved
 steps-preserved g c =
     let before = world g.S.Store.memory c.steps.machine in
     let after = world g.S.Store.memory c.step.new.self in
-    let stand : length c.ends.result.now ≡ length after.harts =
-    sym (length-map c.ends.result.now hart_of) ∙ ap length c.ends.ensures ∙ sym c.step.ensures.harts in
     record {
       harts = c.step.ensures.harts ∙ c.steps.invariant.harts;
-      is_for = subst (g.C.Chooser.IsFor c.next.new.self) stand c.in_ok-choice.ensures.stays;
+      is_for = subst (g.C.Chooser.IsFor c.next.new.self) (sym c.step.ensures.harts) c.in_ok-choice.ensures.stays;
       ran = λ all old steps within so_far.
           let n = steps - (c.steps.step + 1) in
           let more : steps - c.steps.step ≡ n + 1 = omega (arith, within) in
@@ -29,7 +25,7 @@ steps-preserved g c =
           (g.C.Chooser.choices c.next.new.self (c.steps.step + 1) n after)
           old before after (harts_of c.steps.chosen) (harts_of c.add.new.self) c.in_ok-choice.choice
           (ap (λ k. g.C.Chooser.choices c.steps.chooser c.steps.step k before) more
-          ∙ c.in_ok-choice.ensures.chooses n before (sym c.ends.ensures)
+          ∙ c.in_ok-choice.ensures.chooses n
           ∙ ap (λ w. c.in_ok-choice.choice ∷ g.C.Chooser.choices c.next.new.self (c.steps.step + 1) n w) (sym c.in_ok-step.ensures.ok))
           c.in_ok-step.ensures.ok c.add.ensures (c.steps.invariant.ran all old steps within so_far);
     }
