@@ -63,14 +63,14 @@ ending-copied campaign inputs seed start v w chosen outcome harts ending none co
 -- where it isn't asked whether runs hang, an ending isn't said to hang
 pub ending-unasked : (campaign : Campaign) (world : World) (inputs : List ℕ) (choices : List Choice) → campaign.hangs ≡ Unasked
     → ending_after world campaign inputs choices ≡ ending_seeing campaign.form
-    (words_seen campaign.report campaign.words (run world choices).memory)
+    (words_seen campaign.report campaign.words (run world choices))
     (ending_with campaign.form campaign.report
     (judged campaign.expect.rule inputs choices (run world choices).harts)
     (judged_over campaign.properties world choices) (run world choices).harts)
 ending-unasked campaign world inputs choices unasked =
     let left = run world choices in
     ap {A = Hangs} {B = EndingValue} (λ asked. ending_deciding campaign.form (hangs_if asked (length inputs) campaign.steps left)
-    (ending_seeing campaign.form (words_seen campaign.report campaign.words left.memory)
+    (ending_seeing campaign.form (words_seen campaign.report campaign.words left)
     (ending_with campaign.form campaign.report (judged campaign.expect.rule inputs choices left.harts) (judged_over campaign.properties world choices) left.harts)))
     unasked
 

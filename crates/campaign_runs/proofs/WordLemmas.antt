@@ -1,7 +1,7 @@
--- Reports that name no word of memory.
+-- Reports that name no word of world.
 use Rattle.std.proofs.Common.{◌≡◌, List, [], ◌++◌, refl, ap}
 use Rattle.std.proofs.lemmas.List.{append-nil}
-use Rattle.mem_store.specs.Memory.{Memory}
+use Rattle.machine.specs.World.{World}
 use Rattle.cmd_form.specs.declared.form.Form.{Form}
 use Rattle.cmd_form.specs.declared.form.Form.TheVariants.{Text, Json}
 use Rattle.campaign_runs.specs.Ending.{EndingValue}
@@ -25,18 +25,18 @@ seeing_none Json ending = λ i. record {
   words = append-nil ending.words i;
 }
 
-pub unnamed_none : (form : Form) (report : Report) (memory : Memory) (ending : EndingValue)
-    → ending_seeing form (words_seen report no_named_words memory) ending ≡ ending
-unnamed_none form Lines memory ending = seeing_none form ending
-unnamed_none form Failures memory ending = seeing_none form ending
-unnamed_none form Summary memory ending = seeing_none form ending
-unnamed_none form Outcomes memory ending = seeing_none form ending
-unnamed_none form Causes memory ending = seeing_none form ending
+pub unnamed_none : (form : Form) (report : Report) (world : World) (ending : EndingValue)
+    → ending_seeing form (words_seen report no_named_words world) ending ≡ ending
+unnamed_none form Lines world ending = seeing_none form ending
+unnamed_none form Failures world ending = seeing_none form ending
+unnamed_none form Summary world ending = seeing_none form ending
+unnamed_none form Outcomes world ending = seeing_none form ending
+unnamed_none form Causes world ending = seeing_none form ending
 
-pub others_none : (form : Form) (report : Report) (words : Words) (memory : Memory) (ending : EndingValue)
-    → (report ≡ Outcomes → ⊥) → ending_seeing form (words_seen report words memory) ending ≡ ending
-others_none form Lines words memory ending other = seeing_none form ending
-others_none form Failures words memory ending other = seeing_none form ending
-others_none form Summary words memory ending other = seeing_none form ending
-others_none form Outcomes words memory ending other = absurd (other refl)
-others_none form Causes words memory ending other = seeing_none form ending
+pub others_none : (form : Form) (report : Report) (words : Words) (world : World) (ending : EndingValue)
+    → (report ≡ Outcomes → ⊥) → ending_seeing form (words_seen report words world) ending ≡ ending
+others_none form Lines words world ending other = seeing_none form ending
+others_none form Failures words world ending other = seeing_none form ending
+others_none form Summary words world ending other = seeing_none form ending
+others_none form Outcomes words world ending other = absurd (other refl)
+others_none form Causes words world ending other = seeing_none form ending

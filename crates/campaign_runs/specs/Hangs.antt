@@ -37,5 +37,5 @@ ending_deciding form hangs ending = record {
 abbrev pub ending_left : Campaign → ℕ → Outcome → List Judged → World → EndingValue
 ending_left campaign harts outcome judged world =
     ending_deciding campaign.form (hangs_if campaign.hangs harts campaign.steps world)
-    (ending_seeing campaign.form (words_seen campaign.report campaign.words world.memory)
+    (ending_seeing campaign.form (words_seen campaign.report campaign.words world)
     (ending_with campaign.form campaign.report outcome judged world.harts))

@@ -1,7 +1,6 @@
 //! Laws of endings and tallies.
 
 ghost use Rattle.std.specs.Prelude.{◌≡◌, ◌++◌, ◌↔◌, ℕ, List, IsTrue, length};
-ghost use Rattle.mem_store.specs.Memory.{Memory};
 ghost use Rattle.cmd_form.specs.declared.form.Form.{Form};
 ghost use Rattle.machine.specs.World.{World, run};
 ghost use Rattle.machine.specs.declared.choice.Choice.{Choice};
@@ -41,7 +40,7 @@ pub fn blocks_are_counted_together()
 pub fn unasked_hangs_add_nothing()
     ensures { (campaign : Campaign) (world : World) (inputs : List ℕ) (choices : List Choice) → campaign.hangs ≡ Unasked
         → ending_after world campaign inputs choices ≡ ending_seeing campaign.form
-        (words_seen campaign.report campaign.words (run world choices).memory)
+        (words_seen campaign.report campaign.words (run world choices))
         (ending_with campaign.form campaign.report
         (judged campaign.expect.rule inputs choices (run world choices).harts)
         (judged_over campaign.properties world choices) (run world choices).harts) }
@@ -49,8 +48,8 @@ pub fn unasked_hangs_add_nothing()
 
 /// Where no word of memory is named, or the report isn't one of outcomes, an ending gets none.
 pub fn unnamed_words_add_nothing()
-    ensures unnamed { (form : Form) (report : Report) (memory : Memory) (ending : EndingValue)
-        → ending_seeing form (words_seen report no_named_words memory) ending ≡ ending }
-    ensures others { (form : Form) (report : Report) (words : Words) (memory : Memory) (ending : EndingValue)
-        → (report ≡ Outcomes → ⊥) → ending_seeing form (words_seen report words memory) ending ≡ ending }
+    ensures unnamed { (form : Form) (report : Report) (world : World) (ending : EndingValue)
+        → ending_seeing form (words_seen report no_named_words world) ending ≡ ending }
+    ensures others { (form : Form) (report : Report) (words : Words) (world : World) (ending : EndingValue)
+        → (report ≡ Outcomes → ⊥) → ending_seeing form (words_seen report words world) ending ≡ ending }
 {}

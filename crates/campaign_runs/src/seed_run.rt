@@ -67,7 +67,7 @@ fn ending_left<A: Allocator + Copy>(
 {
     let (form, report) = (campaign.form, campaign.report);
     let mut ending = Ending::of(alloc, form, report, outcome, judged, machine.ends())?;
-    let seen = campaign.words.seen(alloc, report, machine.store())?;
+    let seen = campaign.words.seen(alloc, report, machine)?;
     ending.see(form, &seen)?;
     let hangs = hangs_if(
         alloc,

@@ -2,13 +2,14 @@
 
 ghost use Rattle.std.specs.Prelude.{◌≡◌, ◌++◌, IfOk, map, string_bytes};
 ghost use Rattle.std.specs.List.{flat_map};
-ghost use Rattle.mem_store.specs.Image.{segments_memory};
+ghost use Rattle.machine.specs.State.{state};
 ghost use Rattle.campaign_runs.specs.Members.{later_elements};
-ghost use Rattle.campaign_runs.specs.Words.{object_of_word, seen_word, text_of_word, words_member, words_seen, words_shown};
+ghost use Rattle.campaign_runs.specs.Words.{object_of_word, seen_word, text_of_word, words_member, words_seen, text_of_words};
 
 use crate::campaign::Report;
 use cmd_form::Form;
 use isa_names::Word;
+use machine::Machine;
 use mem_flat::FlatStore;
 use property_judge::word_read;
 use std::alloc::{AllocError, Allocator};
@@ -52,19 +53,19 @@ impl Words {
         self,
         alloc: A,
         report: Report,
-        store: &FlatStore<A>,
+        machine: &Machine<FlatStore<A>, A>,
     ) -> Result<Vec<SeenWord, A>, AllocError>
         ensures { IfOk result (λ seen.
-            seen.items ≡ words_seen report self (segments_memory store.now)) }
+            seen.items ≡ words_seen report self (state machine.now)) }
     {
         let mut seen = Vec::new(alloc);
         match report {
             Report::Lines | Report::Failures | Report::Summary | Report::Causes => {}
             Report::Outcomes => {
-                push_seen(&mut seen, store, self.first)?;
-                push_seen(&mut seen, store, self.second)?;
-                push_seen(&mut seen, store, self.third)?;
-                push_seen(&mut seen, store, self.fourth)?;
+                push_seen(&mut seen, machine, self.first)?;
+                push_seen(&mut seen, machine, self.second)?;
+                push_seen(&mut seen, machine, self.third)?;
+                push_seen(&mut seen, machine, self.fourth)?;
             }
         }
         Ok(seen)
@@ -74,16 +75,16 @@ impl Words {
 // Appends the word at an address, if there is one.
 fn push_seen<A: Allocator>(
     seen: &mut Vec<SeenWord, A>,
-    store: &FlatStore<A>,
+    machine: &Machine<FlatStore<A>, A>,
     address: Option<u32>,
 ) -> Result<(), AllocError>
     ensures { IfOk result (λ _.
-        seen.new.items ≡ seen.old.items ++ seen_word (segments_memory store.now) address) }
+        seen.new.items ≡ seen.old.items ++ seen_word (state machine.now) address) }
 {
     if let Some(address) = address {
         seen.push(SeenWord {
             address,
-            value: word_read(store, address),
+            value: word_read(machine.store(), address),
         })?;
     }
     Ok(())
@@ -155,7 +156,7 @@ pub(crate) fn push_words_seen<A: Allocator>(
     seen: &[SeenWord],
 ) -> Result<(), AllocError>
     ensures { IfOk result (λ _. string_bytes text.new
-        ≡ string_bytes text.old ++ words_shown form seen.now) }
+        ≡ string_bytes text.old ++ text_of_words form seen.now) }
 {
     match form {
         Form::Text => push_texts(text, seen)?,

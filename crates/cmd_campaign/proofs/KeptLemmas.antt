@@ -29,7 +29,7 @@ use Rattle.campaign_runs.specs.Ending.{does_hang, ending_breaks, ending_faults, 
 use Rattle.campaign_runs.specs.Hangs.{words_deciding}
 use Rattle.campaign_runs.specs.Properties.{judged_over, no_properties, verdict_on_each}
 use Rattle.campaign_runs.specs.Runs.{SeedEnding, all_endings, ending_from, endings_of}
-use Rattle.campaign_runs.specs.Words.{words_seen, words_shown}
+use Rattle.campaign_runs.specs.Words.{words_seen, text_of_words}
 use Rattle.campaign_runs.specs.declared.campaign.Campaign.{Campaign}
 use Rattle.campaign_runs.specs.declared.campaign.Report.{Report}
 use Rattle.campaign_runs.specs.declared.campaign.Report.TheVariants.{Lines, Failures, Summary, Outcomes, Causes}
@@ -58,7 +58,7 @@ WordlessIn Causes ends = Unit {0}
 
 -- what a report says of the world that a run left, where no property is judged
 abbrev words_left : Form → Report → Words → World → List ℕ
-words_left form report words w = words_of_ending form report [] w.harts ++ words_shown form (words_seen report words w.memory)
+words_left form report words w = words_of_ending form report [] w.harts ++ text_of_words form (words_seen report words w)
 
 -- without properties they say nothing more, in either form
 none_in_lines : (form : Form) (words : Words) (w : World) → words_left form Lines words w ≡ []
@@ -147,10 +147,10 @@ module _ (kind : Kind) (image : ImageValue) (campaign : Campaign) (inputs : List
           let choices = drawn_choices campaign.draw (started image inputs) (length inputs) campaign.steps seed in
           let left = run (started image inputs) choices in
           let said = words_of_ending campaign.form campaign.report (judged_over campaign.properties (started image inputs) choices) left.harts
-          ++ words_shown campaign.form (words_seen campaign.report campaign.words left.memory) in
+          ++ text_of_words campaign.form (words_seen campaign.report campaign.words left) in
           ap (λ asked. words_deciding campaign.form (hangs_if asked (length inputs) campaign.steps (after_seed seed)) said) unasked
           ∙ ap₂ (λ properties r. words_of_ending campaign.form r (judged_over properties (started image inputs) choices) left.harts
-          ++ words_shown campaign.form (words_seen r campaign.words left.memory)) bare is
+          ++ text_of_words campaign.form (words_seen r campaign.words left)) bare is
 
       all_wordless : ((seed : ℕ) → (end seed).ending.words ≡ []) → (seeds : List ℕ) → AllWordless (endings_of campaign image inputs seeds)
       unfolding endings_of end

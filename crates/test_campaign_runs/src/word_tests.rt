@@ -165,5 +165,8 @@ fn words_tell_equal_results_apart(rt: HostRuntime) {
     let Ok((sevens, nines)) = last_stores(rt.alloc()) else {
         return;
     };
-    assert!(rt; sevens > 0 && nines > 0 && sevens + nines == 64, "{sevens} and {nines}");
+    assert!(rt;
+        sevens > 0 && nines > 0 && sevens + nines == 64,
+        "{sevens} and {nines}"
+    );
 }
