@@ -33,8 +33,9 @@ pub struct Ending<A: Allocator> {
     pub properties: Option<Verdict>,
     /// Whether the run hangs, if that was decided.
     pub hangs: Option<bool>,
-    /// What else a line of the report says, of the properties, of the harts, of words of memory, and
-    /// whether the run hangs: as text each word behind a space, as JSON each member behind a comma.
+    /// What else a line of the report says, of the properties, of the harts, of words of memory,
+    /// and whether the run hangs: as text each word behind a space, as JSON each member behind a
+    /// comma.
     pub words: String<A>,
 }
 
@@ -68,7 +69,8 @@ impl<A: Allocator> Ending<A> {
 
     /// Adds words of memory that the run left. The only error is out of memory.
     pub(crate) fn see(&mut self, form: Form, seen: &[SeenWord]) -> Result<(), AllocError>
-        ensures { OnOk result (ending_of self.new ≡ ending_seeing form seen.now (ending_of self.old)) }
+        ensures { OnOk result (ending_of self.new
+            ≡ ending_seeing form seen.now (ending_of self.old)) }
     {
         push_words_seen(&mut self.words, form, seen)?;
         Ok(())

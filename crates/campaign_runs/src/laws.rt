@@ -35,8 +35,8 @@ pub fn blocks_are_counted_together()
         → tally_onto (tally_of before) block ≡ tally_of (before ++ block) }
 {}
 
-/// Where it isn't asked whether runs hang, an ending has what is judged, what the harts left and the
-/// words of memory that the report names, and no more.
+/// Where it isn't asked whether runs hang, an ending has what is judged, what the harts left and
+/// the words of memory that the report names, and no more.
 pub fn unasked_hangs_add_nothing()
     ensures { (campaign : Campaign) (world : World) (inputs : List ℕ) (choices : List Choice) → campaign.hangs ≡ Unasked
         → ending_after world campaign inputs choices ≡ ending_seeing campaign.form
@@ -50,6 +50,7 @@ pub fn unasked_hangs_add_nothing()
 pub fn unnamed_words_add_nothing()
     ensures unnamed { (form : Form) (report : Report) (world : World) (ending : EndingValue)
         → ending_seeing form (words_seen report no_named_words world) ending ≡ ending }
-    ensures others { (form : Form) (report : Report) (words : Words) (world : World) (ending : EndingValue)
-        → (report ≡ Outcomes → ⊥) → ending_seeing form (words_seen report words world) ending ≡ ending }
+    ensures others { (form : Form) (report : Report) (words : Words) (world : World)
+        (ending : EndingValue) → (report ≡ Outcomes → ⊥)
+        → ending_seeing form (words_seen report words world) ending ≡ ending }
 {}

@@ -4,7 +4,8 @@ ghost use Rattle.std.specs.Prelude.{◌≡◌, ◌++◌, IfOk, map, string_bytes
 ghost use Rattle.std.specs.List.{flat_map};
 ghost use Rattle.machine.specs.State.{state};
 ghost use Rattle.campaign_runs.specs.Members.{later_elements};
-ghost use Rattle.campaign_runs.specs.Words.{object_of_word, seen_word, text_of_word, words_member, words_seen, text_of_words};
+ghost use Rattle.campaign_runs.specs.Words.{object_of_word, seen_word, text_of_word, text_of_words};
+ghost use Rattle.campaign_runs.specs.Words.{words_member, words_seen};
 
 use crate::campaign::Report;
 use cmd_form::Form;
@@ -48,7 +49,8 @@ impl Words {
         fourth: None,
     };
 
-    // The words that a report of a run names, as the run left them. The only error is out of memory.
+    // The words that a report of a run names, as the run left them. The only error is out of
+    // memory.
     pub(crate) fn seen<A: Allocator>(
         self,
         alloc: A,
@@ -92,7 +94,8 @@ fn push_seen<A: Allocator>(
 
 // Appends what a line says of a word.
 fn push_text<A: Allocator>(text: &mut String<A>, seen: SeenWord) -> Result<(), AllocError>
-    ensures { IfOk result (λ _. string_bytes text.new ≡ string_bytes text.old ++ text_of_word seen) }
+    ensures { IfOk result (λ _. string_bytes text.new
+        ≡ string_bytes text.old ++ text_of_word seen) }
 {
     let (address, value) = (Word(seen.address), Word(seen.value));
     write!(text, " {address}={value}")?;

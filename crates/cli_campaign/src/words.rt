@@ -35,8 +35,8 @@ pub(crate) fn refuse_word<R: Print + Eprint>(rt: &R, order: &CampaignOrder) -> R
     Ok(())
 }
 
-/// The words that an order means by the symbols of a program. The error is the status of a text that
-/// means none, which is reported.
+/// The words that an order means by the symbols of a program. The error is the status of a text
+/// that means none, which is reported.
 pub(crate) fn read_words<R: AllocGlobal + Eprint>(
     rt: &R,
     order: &CampaignOrder,
@@ -55,7 +55,8 @@ pub(crate) fn read_words<R: AllocGlobal + Eprint>(
     })
 }
 
-// The address of a word, if there is a text of one; the fault of a text that means none is reported.
+// The address of a word, if there is a text of one; the fault of a text that means none is
+// reported.
 fn word_said(
     rt: &impl Eprint,
     symbols: &[Symbol<Global>],

@@ -4,8 +4,9 @@ use clap::ArgMatches;
 use cli_args::{is_set, text_of};
 
 /// `campaign FILE --inputs L --first S --count C --steps N [--rule K] [--failures]
-/// [--until-failure] [--summary] [--outcomes] [--by-cause] [--word W] [--schedule KIND] [--within N]
-/// [--refusals never|one-in:N] [--must-exit] [--hangs] [--never-both R] [--always P] [--jobs J] [--json]`:
+/// [--until-failure] [--summary] [--outcomes] [--word W] [--by-cause] [--schedule KIND]
+/// [--within N] [--refusals never|one-in:N] [--must-exit] [--hangs] [--never-both R] [--always P]
+/// [--jobs J] [--json]`:
 /// runs a program under a random schedule for each of C seeds from S on, and prints a line for each, with a
 /// rule also its verdict; or the lines of bad seeds alone, or of the first of them, or how many seeds
 /// end in which way. With `--preemptions K [--choices-of N]` it does so for every schedule with at most K
