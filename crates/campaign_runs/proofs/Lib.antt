@@ -4,3 +4,4 @@ pub mod TallyLemmas
 pub mod RunLemmas
 pub mod JudgedLemmas
 pub mod HangLemmas
+pub mod WordLemmas

@@ -25,6 +25,7 @@ use Rattle.run_hangs.specs.declared.asked.Hangs.TheVariants.{Unasked}
 use Rattle.campaign_runs.specs.Ending.{EndingValue, ending_with}
 use Rattle.campaign_runs.specs.Hangs.{ending_deciding, ending_left}
 use Rattle.campaign_runs.specs.Properties.{judged_over, unjudged}
+use Rattle.campaign_runs.specs.Words.{ending_seeing, words_seen}
 use Rattle.campaign_runs.specs.Runs.{SeedEnding, seed_ending, ending_after, ending_from, endings_of}
 use Rattle.campaign_runs.specs.declared.campaign.Campaign.{Campaign}
 use Rattle.campaign_runs.specs.declared.seed_run.SeedEnd.{SeedEnd}
@@ -59,15 +60,18 @@ ending-copied campaign inputs seed start v w chosen outcome harts ending none co
     (is ∙ same_parts campaign (length inputs) outcome _ [] _ w _ says unjudged_too ran.0)
     ∙ ap (λ x. ending_from x campaign inputs seed) copied
 
--- where it isn't asked whether runs hang, nothing is added
+-- where it isn't asked whether runs hang, an ending isn't said to hang
 pub ending-unasked : (campaign : Campaign) (world : World) (inputs : List ℕ) (choices : List Choice) → campaign.hangs ≡ Unasked
-    → ending_after world campaign inputs choices ≡ ending_with campaign.form campaign.report
+    → ending_after world campaign inputs choices ≡ ending_seeing campaign.form
+    (words_seen campaign.report campaign.words (run world choices))
+    (ending_with campaign.form campaign.report
     (judged campaign.expect.rule inputs choices (run world choices).harts)
-    (judged_over campaign.properties world choices) (run world choices).harts
+    (judged_over campaign.properties world choices) (run world choices).harts)
 ending-unasked campaign world inputs choices unasked =
-    let harts = (run world choices).harts in
-    ap {A = Hangs} {B = EndingValue} (λ asked. ending_deciding campaign.form (hangs_if asked (length inputs) campaign.steps (run world choices))
-    (ending_with campaign.form campaign.report (judged campaign.expect.rule inputs choices harts) (judged_over campaign.properties world choices) harts))
+    let left = run world choices in
+    ap {A = Hangs} {B = EndingValue} (λ asked. ending_deciding campaign.form (hangs_if asked (length inputs) campaign.steps left)
+    (ending_seeing campaign.form (words_seen campaign.report campaign.words left)
+    (ending_with campaign.form campaign.report (judged campaign.expect.rule inputs choices left.harts) (judged_over campaign.properties world choices) left.harts)))
     unasked
 
 -- the run of a seed is that over the list of its choices

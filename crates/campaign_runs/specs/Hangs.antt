@@ -7,6 +7,7 @@ use Rattle.outcome.specs.declared.run_outcome.Outcome.{Outcome}
 use Rattle.property_judge.specs.declared.judged.Judged.{Judged}
 use Rattle.run_hangs.specs.Asked.{hangs_if}
 use Rattle.campaign_runs.specs.Ending.{EndingValue, ending_with}
+use Rattle.campaign_runs.specs.Words.{ending_seeing, words_seen}
 use Rattle.campaign_runs.specs.declared.campaign.Campaign.{Campaign}
 
 -- what a line of a report says of it, or an object
@@ -30,10 +31,11 @@ ending_deciding form hangs ending = record {
   words = words_deciding form hangs ending.words;
 }
 
--- the ending of a run of n harts with this outcome and these properties that left this world; it is
--- decided whether the run hangs, if the campaign asks for that, by as many further steps as it has
--- choices
+-- the ending of a run of n harts with this outcome and these properties that left this world, with
+-- the words of memory that the campaign names; it is decided whether the run hangs, if the campaign
+-- asks for that, by as many further steps as it has choices
 abbrev pub ending_left : Campaign → ℕ → Outcome → List Judged → World → EndingValue
 ending_left campaign harts outcome judged world =
     ending_deciding campaign.form (hangs_if campaign.hangs harts campaign.steps world)
-    (ending_with campaign.form campaign.report outcome judged world.harts)
+    (ending_seeing campaign.form (words_seen campaign.report campaign.words world)
+    (ending_with campaign.form campaign.report outcome judged world.harts))

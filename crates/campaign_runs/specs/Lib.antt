@@ -4,6 +4,7 @@ pub mod Properties
 pub mod Members
 pub mod Elements
 pub mod Ending
+pub mod Words
 pub mod Hangs
 pub mod Runs
 pub mod Tally

@@ -1,6 +1,7 @@
 //! The runs of a campaign, and what it reports of them.
 
 use crate::properties::Properties;
+use crate::words::Words;
 use cmd_form::Form;
 use outcome::Expect;
 use run_hangs::Hangs;
@@ -16,7 +17,7 @@ pub enum Report {
     /// A line for each outcome, once all runs are done.
     Summary,
     /// A line for each outcome, where runs also differ by the `a0` and `a1` of each hart that has
-    /// exited.
+    /// exited, and by words of memory.
     Outcomes,
     /// A line for each outcome, where runs also differ by the cause and the place of each fault.
     Causes,
@@ -39,6 +40,8 @@ pub struct Campaign {
     pub properties: Properties,
     /// Whether it is decided of each run if it hangs, which is a failure.
     pub hangs: Hangs,
+    /// The words of memory that outcomes also differ by; other reports have none.
+    pub words: Words,
     /// What is reported of the runs.
     pub report: Report,
     /// In which form it is reported.

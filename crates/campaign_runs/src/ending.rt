@@ -9,6 +9,7 @@ ghost use Rattle.campaign_runs.specs.Properties.{any_broken, property_name, prop
 
 use crate::campaign::Report;
 use crate::members::push_members;
+use crate::words::{SeenWord, push_words_seen};
 use cmd_form::Form;
 use hart_step::{Hart, HartState};
 use isa_names::Word;
@@ -32,14 +33,16 @@ pub struct Ending<A: Allocator> {
     pub properties: Option<Verdict>,
     /// Whether the run hangs, if that was decided.
     pub hangs: Option<bool>,
-    /// What else a line of the report says, of the properties, of the harts, and whether the run
-    /// hangs: as text each word behind a space, as JSON each member behind a comma.
+    /// What else a line of the report says, of the properties, of the harts, of words of memory,
+    /// and whether the run hangs: as text each word behind a space, as JSON each member behind a
+    /// comma.
     pub words: String<A>,
 }
 
 impl<A: Allocator> Ending<A> {
     ghost use Rattle.campaign_runs.specs.Ending.{ending_breaks, ending_fails, ending_faults, ending_of, ending_with};
     ghost use Rattle.campaign_runs.specs.Hangs.{ending_deciding};
+    ghost use Rattle.campaign_runs.specs.Words.{ending_seeing};
 
     /// The ending of a run with this outcome that left these properties and harts, in the detail
     /// that a report distinguishes, for a report in this form. The only error is out of memory.
@@ -62,6 +65,15 @@ impl<A: Allocator> Ending<A> {
             hangs: None,
             words,
         })
+    }
+
+    /// Adds words of memory that the run left. The only error is out of memory.
+    pub(crate) fn see(&mut self, form: Form, seen: &[SeenWord]) -> Result<(), AllocError>
+        ensures { OnOk result (ending_of self.new
+            ≡ ending_seeing form seen.now (ending_of self.old)) }
+    {
+        push_words_seen(&mut self.words, form, seen)?;
+        Ok(())
     }
 
     /// Adds whether the run hangs, if that was decided. The only error is out of memory.

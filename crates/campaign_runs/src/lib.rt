@@ -8,7 +8,7 @@ pub use ending::Ending;
 pub use jobs::Jobs;
 pub use laws::{
     blocks_are_counted_together, each_ending_is_counted, same_endings_are_equal,
-    unasked_hangs_add_nothing,
+    unasked_hangs_add_nothing, unnamed_words_add_nothing,
 };
 pub use properties::Properties;
 pub use run_hangs::Hangs;
@@ -16,6 +16,7 @@ pub use runner::{Alone, OnThreads, Runner};
 pub use seed_run::{SeedEnd, ending_of_choices, run_seed};
 pub use seeds::{BLOCK_STEPS, Block, LEAST_SEEDS, MOST_SEEDS, Seeds};
 pub use tally::{SeedCount, Tally};
+pub use words::Words;
 
 mod block;
 mod campaign;
@@ -29,3 +30,4 @@ mod seed_run;
 mod seed_runs;
 mod seeds;
 mod tally;
+mod words;

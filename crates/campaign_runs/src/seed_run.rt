@@ -49,8 +49,8 @@ pub fn run_seed<A: Allocator + Copy>(
     }
 }
 
-// The ending of a run that left a machine of `harts` harts so; it is decided whether the run hangs,
-// if the campaign asks for that.
+// The ending of a run that left a machine of `harts` harts so, with the words of memory that the
+// campaign names; it is decided whether the run hangs, if the campaign asks for that.
 fn ending_left<A: Allocator + Copy>(
     alloc: A,
     campaign: Campaign,
@@ -67,6 +67,8 @@ fn ending_left<A: Allocator + Copy>(
 {
     let (form, report) = (campaign.form, campaign.report);
     let mut ending = Ending::of(alloc, form, report, outcome, judged, machine.ends())?;
+    let seen = campaign.words.seen(alloc, report, machine)?;
+    ending.see(form, &seen)?;
     let hangs = hangs_if(
         alloc,
         campaign.hangs,

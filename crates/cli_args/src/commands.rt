@@ -6,7 +6,7 @@ use crate::help::{
     DRAW_OF_SCHEDULE, FILE, FIRST, HANGS, HANGS_OF_RUN, HANGS_OF_RUNS, HEX, HISTORY, INPUTS,
     INPUTS_OF_SCHEDULE, JOBS, JSON, JSON_LINES, MUST_EXIT, NEVER_BOTH, OUTCOMES, PREEMPTIONS,
     REFUSALS, REFUSE, RULE, SC_REFUSALS, SHARED_RANGE, STEPS_OF_CAMPAIGN, SUMMARY, TOTAL,
-    UNTIL_FAILURE, WAYS_OUT, WITHIN, WORLDS, WRITTEN,
+    UNTIL_FAILURE, WAYS_OUT, WITHIN, WORDS, WORLDS, WRITTEN,
 };
 
 /// Which options name the choices of a command's run.
@@ -219,6 +219,7 @@ static ROW_OF_CAMPAIGN: CommandRow = CommandRow {
         Argument::Flag("summary", SUMMARY),
         Argument::Flag("outcomes", OUTCOMES),
         Argument::Flag("by-cause", BY_CAUSE),
+        Argument::Optional("word", WORDS),
         Argument::Optional("schedule", DRAW),
         Argument::Optional("within", WITHIN),
         Argument::Optional("refusals", REFUSALS),

@@ -123,6 +123,10 @@ pub(crate) const OUTCOMES: &str =
 pub(crate) const BY_CAUSE: &str =
     "with --summary: tell ends apart by the cause and the pc of each fault, too";
 
+/// Of `--word` of `campaign`.
+pub(crate) const WORDS: &str =
+    "with --summary --outcomes: one to four words, as counter,turn: tell ends apart by their values, too";
+
 /// Of `--first` of `campaign`.
 pub(crate) const FIRST: &str =
     "the first seed; with --preemptions the first schedule, 0 if not said";

@@ -6,6 +6,7 @@ use crate::bounded::obey_bounded;
 use crate::exiting::{exit_of, hangs_said};
 use crate::properties::{PropertyTexts, read_properties, show_properties};
 use crate::watching::Watching;
+use crate::words::{read_words, refuse_word, show_words};
 use byte_io::{MemorySource, Progress, Source, Status};
 use cli_orders::CampaignOrder;
 use cli_report::{
@@ -16,7 +17,7 @@ use cli_values::{
     JOBS, SeedNumbers, SeedPlan, read_draw, read_jobs, read_report, read_seed_numbers, seed_engine,
 };
 use cmd_campaign::{
-    Campaign, Exit, Expect, Form, Hangs, Jobs, OnThreads, Properties, Report, RunStatus,
+    Campaign, Exit, Expect, Form, Hangs, Jobs, OnThreads, Properties, Report, RunStatus, Words,
     campaign_engine, until_failure_engine,
 };
 use program_open::{CommandFault, ProgramForm, write_text};
@@ -79,7 +80,8 @@ fn read_numbers(order: &CampaignOrder) -> Option<SeedNumbers>
     read_seed_numbers(order.first?, order.count?, order.steps)
 }
 
-// The campaign that an order asks for, yet without its properties, or the status of an invalid line.
+// The campaign that an order asks for, yet without its properties and words, or the status of an
+// invalid line.
 fn read_campaign<R: Print + Eprint>(
     rt: &R,
     order: &CampaignOrder,
@@ -121,6 +123,7 @@ fn read_campaign<R: Print + Eprint>(
         expect,
         properties: Properties::NONE,
         hangs,
+        words: Words::NONE,
         report,
         form: form_of(order),
     })
@@ -151,6 +154,7 @@ pub fn obey_campaign<R: Files + AllocGlobal + Print + Eprint + Threads + Sync>(
     order: &CampaignOrder,
 ) -> Result<RunStatus, Status> {
     let hangs = hangs_said(rt, order)?;
+    refuse_word(rt, order)?;
     if let Some(preemptions) = order.preemptions {
         let status = obey_bounded(rt, audience, order, preemptions)?;
         return Ok(RunStatus::Of(status));
@@ -161,8 +165,8 @@ pub fn obey_campaign<R: Files + AllocGlobal + Print + Eprint + Threads + Sync>(
         return Err(bad_line(rt, JOBS));
     };
     let mut program = open_one(rt, audience, order.file)?;
-    if order.has_properties() {
-        return report_judged(rt, audience, order, &inputs, campaign, jobs, &mut program);
+    if order.names_symbols() {
+        return report_named(rt, audience, order, &inputs, campaign, jobs, &mut program);
     }
     Ok(report_campaign(
         rt,
@@ -175,9 +179,9 @@ pub fn obey_campaign<R: Files + AllocGlobal + Print + Eprint + Threads + Sync>(
     ))
 }
 
-// Reads the program, since the order's properties name its symbols, and reports a campaign in which
-// they are judged.
-fn report_judged<R: Files + AllocGlobal + Print + Eprint + Threads + Sync, P: Source>(
+// Reads the program, since the order's properties and words name its symbols, and reports the
+// campaign with them.
+fn report_named<R: Files + AllocGlobal + Print + Eprint + Threads + Sync, P: Source>(
     rt: &R,
     audience: Audience,
     order: &CampaignOrder,
@@ -193,6 +197,7 @@ fn report_judged<R: Files + AllocGlobal + Print + Eprint + Threads + Sync, P: So
     let (bytes, properties) = read_properties(rt, audience, order.file, texts, inputs, program)?;
     let mut campaign = campaign;
     campaign.properties = properties;
+    campaign.words = read_words(rt, order, &bytes)?;
     let mut source = MemorySource::new(&bytes);
     Ok(report_campaign(rt, audience, order, inputs, campaign, jobs, &mut source))
 }
@@ -253,6 +258,9 @@ fn report_campaign<R: Files + AllocGlobal + Print + Eprint + Threads + Sync, P: 
         Ok(finished) => {
             if audience.is_told() {
                 let _ = name_places(rt, order, sink.passed());
+                if campaign.form == Form::Text {
+                    let _ = show_words(rt, order, campaign.words);
+                }
                 let _ = match finished.first_failure {
                     Some(seed) => explain_seed(rt, order, inputs, campaign, seed),
                     None => explain_steps(rt, order, inputs, campaign),

@@ -12,3 +12,4 @@ mod explore;
 mod properties;
 mod shrink;
 mod watching;
+mod words;

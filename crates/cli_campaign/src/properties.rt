@@ -6,7 +6,7 @@ use byte_io::{ReadFault, Source, Status, read_all};
 use cli_orders::{CampaignOrder, ExploreOrder, ShrinkOrder};
 use cli_report::{Audience, RunFiles, out_of_memory, say_why};
 use cmd_campaign::Properties;
-use elf_read::{SymFault, symbols};
+use elf_read::{SymFault, Symbol, symbols};
 use machine::Inputs;
 use program_open::{CommandFault, Input, ProgramForm, read_program};
 use property_judge::Property;
@@ -89,17 +89,26 @@ fn read_checked<P: Source>(
     Ok(bytes)
 }
 
+/// The symbols of a program, none if it has no valid table of them; or the status of being out of
+/// memory, which is reported.
+pub(crate) fn symbols_of<R: AllocGlobal + Eprint>(
+    rt: &R,
+    program: &[u8],
+) -> Result<Vec<Symbol<Global>>, Status> {
+    match symbols(rt.alloc(), program) {
+        Ok(symbols) => Ok(symbols),
+        Err(SymFault::NoTable | SymFault::BadTable) => Ok(Vec::new(rt.alloc())),
+        Err(SymFault::Memory) => Err(out_of_memory(rt)),
+    }
+}
+
 // The properties of texts, by the symbols of a program: of a range, and then of a word.
 fn properties_among<R: AllocGlobal + Eprint>(
     rt: &R,
     texts: PropertyTexts<'_>,
     program: &[u8],
 ) -> Result<Properties, Status> {
-    let symbols = match symbols(rt.alloc(), program) {
-        Ok(symbols) => symbols,
-        Err(SymFault::NoTable | SymFault::BadTable) => Vec::new(rt.alloc()),
-        Err(SymFault::Memory) => return Err(out_of_memory(rt)),
-    };
+    let symbols = symbols_of(rt, program)?;
     let first = match texts.never_both {
         Some(text) => Some(property_said(rt, text, read_never_both(&symbols, text.as_bytes()))?),
         None => None,
@@ -111,8 +120,8 @@ fn properties_among<R: AllocGlobal + Eprint>(
     Ok(Properties { first, second })
 }
 
-// What a text was read as, or its fault, which is reported.
-fn property_said<P: Copy>(
+/// What a text was read as, or the status of its fault, which is reported.
+pub(crate) fn property_said<P: Copy>(
     rt: &impl Eprint,
     text: &str,
     read: Result<P, PropertyFault>,

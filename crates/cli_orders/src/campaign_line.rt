@@ -4,8 +4,9 @@ use clap::ArgMatches;
 use cli_args::{is_set, text_of};
 
 /// `campaign FILE --inputs L --first S --count C --steps N [--rule K] [--failures]
-/// [--until-failure] [--summary] [--outcomes] [--by-cause] [--schedule KIND] [--within N]
-/// [--refusals never|one-in:N] [--must-exit] [--hangs] [--never-both R] [--always P] [--jobs J] [--json]`:
+/// [--until-failure] [--summary] [--outcomes] [--word W] [--by-cause] [--schedule KIND]
+/// [--within N] [--refusals never|one-in:N] [--must-exit] [--hangs] [--never-both R] [--always P]
+/// [--jobs J] [--json]`:
 /// runs a program under a random schedule for each of C seeds from S on, and prints a line for each, with a
 /// rule also its verdict; or the lines of bad seeds alone, or of the first of them, or how many seeds
 /// end in which way. With `--preemptions K [--choices-of N]` it does so for every schedule with at most K
@@ -34,6 +35,9 @@ pub struct CampaignOrder<'a> {
     pub outcomes: bool,
     /// Whether outcomes also differ by the cause and the place of each fault.
     pub by_cause: bool,
+    /// The words of memory that outcomes also differ by: symbols with or without an offset, or
+    /// addresses, with commas between them.
+    pub word: Option<&'a str>,
     /// How the choices of a seed are drawn.
     pub draw: Option<&'a str>,
     /// Within how many steps the harts' priorities change.
@@ -63,6 +67,11 @@ impl<'a> CampaignOrder<'a> {
     pub fn has_properties(&self) -> bool {
         self.never_both.is_some() || self.always.is_some()
     }
+
+    /// Whether its options may name symbols of the program.
+    pub fn names_symbols(&self) -> bool {
+        self.has_properties() || self.word.is_some()
+    }
 }
 
 /// The order in clap's matches.
@@ -79,6 +88,7 @@ pub(crate) fn campaign_order<'a>(matches: &ArgMatches<'a>) -> Option<CampaignOrd
         summary: is_set(matches, "summary"),
         outcomes: is_set(matches, "outcomes"),
         by_cause: is_set(matches, "by-cause"),
+        word: text_of(matches, "word"),
         draw: text_of(matches, "schedule"),
         within: text_of(matches, "within"),
         refusals: text_of(matches, "refusals"),

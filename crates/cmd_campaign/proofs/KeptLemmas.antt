@@ -29,9 +29,11 @@ use Rattle.campaign_runs.specs.Ending.{does_hang, ending_breaks, ending_faults, 
 use Rattle.campaign_runs.specs.Hangs.{words_deciding}
 use Rattle.campaign_runs.specs.Properties.{judged_over, no_properties, verdict_on_each}
 use Rattle.campaign_runs.specs.Runs.{SeedEnding, all_endings, ending_from, endings_of}
+use Rattle.campaign_runs.specs.Words.{words_seen, text_of_words}
 use Rattle.campaign_runs.specs.declared.campaign.Campaign.{Campaign}
 use Rattle.campaign_runs.specs.declared.campaign.Report.{Report}
 use Rattle.campaign_runs.specs.declared.campaign.Report.TheVariants.{Lines, Failures, Summary, Outcomes, Causes}
+use Rattle.campaign_runs.specs.declared.words.Words.{Words}
 use Rattle.byte_io.specs.declared.status.Status.TheVariants as status
 use Rattle.cmd_campaign.specs.Answers.{after_image, campaign_answer}
 use Rattle.cmd_campaign.specs.Kept.{AllKept, AnswersNothing}
@@ -54,14 +56,18 @@ WordlessIn Summary ends = Unit {0}
 WordlessIn Outcomes ends = Unit {0}
 WordlessIn Causes ends = Unit {0}
 
--- without properties they say nothing more, in either form
-none_in_lines : (form : Form) (w : World) → words_of_ending form Lines [] w.harts ≡ []
-none_in_lines Text w = refl
-none_in_lines Json w = refl
+-- what a report says of the world that a run left, where no property is judged
+abbrev words_left : Form → Report → Words → World → List ℕ
+words_left form report words w = words_of_ending form report [] w.harts ++ text_of_words form (words_seen report words w)
 
-none_in_failures : (form : Form) (w : World) → words_of_ending form Failures [] w.harts ≡ []
-none_in_failures Text w = refl
-none_in_failures Json w = refl
+-- without properties they say nothing more, in either form
+none_in_lines : (form : Form) (words : Words) (w : World) → words_left form Lines words w ≡ []
+none_in_lines Text words w = refl
+none_in_lines Json words w = refl
+
+none_in_failures : (form : Form) (words : Words) (w : World) → words_left form Failures words w ≡ []
+none_in_failures Text words w = refl
+none_in_failures Json words w = refl
 
 module _ (kind : Kind) (image : ImageValue) (campaign : Campaign) (inputs : List ℕ) (some : 0 < length inputs) (same : IsSame image (image_of kind))
     (meant : IsMeantFor kind (length inputs)) (words : All (λ x. x < 2 ^ 32) inputs) (ruled : campaign.expect.rule ≡ Some kind) where
@@ -133,16 +139,18 @@ module _ (kind : Kind) (image : ImageValue) (campaign : Campaign) (inputs : List
       unfolding end ending_from
       undecided seed = ap (λ asked. hangs_if asked (length inputs) campaign.steps (after_seed seed)) unasked
 
-      -- an ending has the words of harts alone
-      harts_words : (report : Report) → campaign.report ≡ report
-          → (seed : ℕ) → (end seed).ending.words ≡ words_of_ending campaign.form report [] (after_seed seed).harts
+      -- an ending has the words of harts and of memory alone
+      left_words : (report : Report) → campaign.report ≡ report
+          → (seed : ℕ) → (end seed).ending.words ≡ words_left campaign.form report campaign.words (after_seed seed)
       unfolding end ending_from
-      harts_words report is seed =
+      left_words report is seed =
           let choices = drawn_choices campaign.draw (started image inputs) (length inputs) campaign.steps seed in
-          let harts = (run (started image inputs) choices).harts in
-          let said = words_of_ending campaign.form campaign.report (judged_over campaign.properties (started image inputs) choices) harts in
+          let left = run (started image inputs) choices in
+          let said = words_of_ending campaign.form campaign.report (judged_over campaign.properties (started image inputs) choices) left.harts
+          ++ text_of_words campaign.form (words_seen campaign.report campaign.words left) in
           ap (λ asked. words_deciding campaign.form (hangs_if asked (length inputs) campaign.steps (after_seed seed)) said) unasked
-          ∙ ap₂ (λ properties r. words_of_ending campaign.form r (judged_over properties (started image inputs) choices) harts) bare is
+          ∙ ap₂ (λ properties r. words_of_ending campaign.form r (judged_over properties (started image inputs) choices) left.harts
+          ++ text_of_words campaign.form (words_seen r campaign.words left)) bare is
 
       all_wordless : ((seed : ℕ) → (end seed).ending.words ≡ []) → (seeds : List ℕ) → AllWordless (endings_of campaign image inputs seeds)
       unfolding endings_of end
@@ -152,8 +160,8 @@ module _ (kind : Kind) (image : ImageValue) (campaign : Campaign) (inputs : List
 
       -- so lines of seeds have none
       pub lines_wordless : (report : Report) → campaign.report ≡ report → (seeds : List ℕ) → WordlessIn report (endings_of campaign image inputs seeds)
-      lines_wordless Lines is seeds = all_wordless (λ seed. harts_words Lines is seed ∙ none_in_lines campaign.form (after_seed seed)) seeds
-      lines_wordless Failures is seeds = all_wordless (λ seed. harts_words Failures is seed ∙ none_in_failures campaign.form (after_seed seed)) seeds
+      lines_wordless Lines is seeds = all_wordless (λ seed. left_words Lines is seed ∙ none_in_lines campaign.form campaign.words (after_seed seed)) seeds
+      lines_wordless Failures is seeds = all_wordless (λ seed. left_words Failures is seed ∙ none_in_failures campaign.form campaign.words (after_seed seed)) seeds
       lines_wordless Summary is seeds = tt
       lines_wordless Outcomes is seeds = tt
       lines_wordless Causes is seeds = tt

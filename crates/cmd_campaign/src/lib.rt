@@ -1,7 +1,9 @@
 //! The engine of `campaign`.
 #![tactic(auto)]
 
-pub use campaign_runs::{Alone, Campaign, Form, Jobs, OnThreads, Properties, Report, Runner};
+pub use campaign_runs::{
+    Alone, Campaign, Form, Jobs, OnThreads, Properties, Report, Runner, Words,
+};
 pub use engine::{Finished, campaign_engine};
 pub use laws::{
     all_seeds_are_counted, campaign_of_one_run_has_its_status, failures_of_an_object_are_none,

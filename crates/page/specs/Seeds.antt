@@ -2,6 +2,7 @@
 use Rattle.std.specs.Prelude.{◌≡◌, ℕ, ◌+◌, ◌^◌, ◌<◌, ◌≤◌, ◌⊎◌, Option, Some, None}
 use Rattle.cmd_schedule.specs.declared.plan.SeedPlan.{SeedPlan}
 use Rattle.campaign_runs.specs.Properties.{no_properties}
+use Rattle.campaign_runs.specs.Words.{no_named_words}
 use Rattle.run_hangs.specs.declared.asked.Hangs.TheVariants.{Unasked}
 use Rattle.cmd_form.specs.declared.form.Form.TheVariants.{Text}
 use Rattle.campaign_runs.specs.declared.campaign.Campaign.{Campaign}
@@ -50,14 +51,14 @@ AsksChoices asked (Some plan) =
     AsksDraw asked.draw (Some plan.draw) × (plan.steps ≡ asked.steps) × (plan.seed ≡ asked.seed)
 AsksChoices asked None = AsksDraw asked.draw None
 
--- the campaign that is asked for, reported as text, without properties of one's own and without
--- deciding which runs hang, or that there is none: its seeds go past 2 ^ 64 - 1, or a number is one
--- of nothing
+-- the campaign that is asked for, reported as text, without properties of one's own, without
+-- deciding which runs hang and without words of memory, or that there is none: its seeds go past
+-- 2 ^ 64 - 1, or a number is one of nothing
 abbrev pub AsksCampaign : AskedCampaign → Option Campaign → Type 0
 AsksCampaign asked (Some campaign) = (campaign.first ≡ asked.first) × (campaign.count ≡ asked.count)
     × (campaign.steps ≡ asked.steps) × AsksDraw asked.draw (Some campaign.draw)
     × (expect_numbered asked.rule asked.exit ≡ Some campaign.expect)
-    × (campaign.properties ≡ no_properties) × (campaign.hangs ≡ Unasked)
+    × (campaign.properties ≡ no_properties) × (campaign.hangs ≡ Unasked) × (campaign.words ≡ no_named_words)
     × (report_numbered asked.report ≡ Some campaign.report) × (campaign.form ≡ Text)
     × (campaign.first + campaign.count ≤ 2 ^ 64)
 AsksCampaign asked None = AsksDraw asked.draw None

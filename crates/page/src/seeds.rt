@@ -5,7 +5,7 @@ ghost use Rattle.page.specs.Seeds.{AsksCampaign, AsksChoices, AsksDraw, AsksOrde
 ghost use Rattle.std.specs.Prelude.{◌≡◌};
 
 use crate::asked::{expect_of, report_of};
-use cmd_campaign::{Campaign, Form, Hangs, Properties};
+use cmd_campaign::{Campaign, Form, Hangs, Properties, Words};
 use cmd_schedule::SeedPlan;
 use sched_draw::{Chance, ChangePoints, Depth, Draw, Mean, Order, Refusals};
 
@@ -128,6 +128,7 @@ pub(crate) fn campaign_of(asked: AskedCampaign) -> Option<Campaign>
         expect,
         properties: Properties::NONE,
         hangs: Hangs::Unasked,
+        words: Words::NONE,
         report,
         form: Form::Text,
     })

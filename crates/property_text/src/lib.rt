@@ -4,6 +4,7 @@
 pub use always::read_always;
 pub use fault::PropertyFault;
 pub use never_both::read_never_both;
+pub use places::word_meant;
 
 mod always;
 mod comparison;

@@ -24,11 +24,9 @@ pub(crate) fn place_meant<A: Allocator>(
     }
 }
 
-/// The address of a word.
-pub(crate) fn word_meant<A: Allocator>(
-    symbols: &[Symbol<A>],
-    text: &[u8],
-) -> Result<u32, PropertyFault>
+/// The address of a word that a text means, or why it means none. It may be given as a symbol of
+/// the program, with or without an offset; the symbols are these.
+pub fn word_meant<A: Allocator>(symbols: &[Symbol<A>], text: &[u8]) -> Result<u32, PropertyFault>
     ensures { result ≡ word_meant symbols.now text.now }
 {
     let address = place_meant(symbols, text)?;

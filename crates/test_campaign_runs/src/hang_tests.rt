@@ -1,7 +1,7 @@
 //! Campaigns of which each run is decided to hang or not: lines, rows, the status and the first
 //! failure; a seed's run with each request for memory refused in turn.
 use byte_io::{MemorySink, MemorySource, Status, Unheard};
-use campaign_runs::{Alone, Campaign, Form, Hangs, Properties, Report, run_seed};
+use campaign_runs::{Alone, Campaign, Form, Hangs, Properties, Report, Words, run_seed};
 use cmd_campaign::{Finished, RunStatus, campaign_engine, until_failure_engine};
 use machine::{Inputs, Machine};
 use mem_flat::FlatStore;
@@ -121,6 +121,7 @@ impl Row {
             },
             properties: self.properties,
             hangs: self.asked,
+            words: Words::NONE,
             report: self.report,
             form: self.form,
         }

@@ -31,3 +31,6 @@ mod early_end_tests;
 // Worked summaries.
 #[cfg(test)]
 mod summary_tests;
+// Words of memory.
+#[cfg(test)]
+mod word_tests;

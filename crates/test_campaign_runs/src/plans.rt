@@ -2,7 +2,7 @@
 ghost use Rattle.std.specs.Prelude.{◌+◌, ◌≤◌, ◌^◌, IfSome};
 
 use byte_io::{Failing, MemorySink, MemorySource, Unheard};
-use campaign_runs::{Campaign, Form, Hangs, Properties, Report};
+use campaign_runs::{Campaign, Form, Hangs, Properties, Report, Words};
 use cmd_campaign::{Finished, Jobs, OnThreads, campaign_engine};
 use object_library::Kind;
 use outcome::{Exit, Expect};
@@ -86,6 +86,7 @@ pub(crate) fn campaign_of(plan: Plan, report: Report) -> Option<Campaign>
         },
         properties: Properties::NONE,
         hangs: Hangs::Unasked,
+        words: Words::NONE,
         report,
         form: Form::Text,
     })

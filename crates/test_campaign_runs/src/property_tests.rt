@@ -1,7 +1,7 @@
 //! Campaigns in which properties of one's own are judged: lines, rows, the status and the first
 //! failure.
 use byte_io::{MemorySink, MemorySource, Status, Unheard};
-use campaign_runs::{Alone, Campaign, Form, Hangs, Properties, Report};
+use campaign_runs::{Alone, Campaign, Form, Hangs, Properties, Report, Words};
 use cmd_campaign::{Finished, campaign_engine, until_failure_engine};
 use object_library::Kind;
 use outcome::{Exit, Expect};
@@ -87,6 +87,7 @@ impl Row {
             },
             properties: self.properties,
             hangs: Hangs::Unasked,
+            words: Words::NONE,
             report: self.report,
             form: self.form,
         }

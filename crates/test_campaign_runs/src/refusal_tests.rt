@@ -4,7 +4,9 @@
 ghost use Rattle.std.specs.Prelude.{◌≡◌, IfOk, length};
 
 use byte_io::MemorySink;
-use campaign_runs::{Campaign, Ending, Form, Hangs, Properties, Report, SeedCount, SeedEnd, Tally};
+use campaign_runs::{
+    Campaign, Ending, Form, Hangs, Properties, Report, SeedCount, SeedEnd, Tally, Words,
+};
 use cmd_campaign::{count_ends_of, push_lines, record_block, summary_text};
 use hart_step::{Cause, Hart, HartState};
 use object_library::{Kind, Verdict};
@@ -37,6 +39,7 @@ fn campaign_with(expect: Expect, form: Form, report: Report) -> Campaign {
         expect,
         properties: Properties::NONE,
         hangs: Hangs::Unasked,
+        words: Words::NONE,
         report,
         form,
     }

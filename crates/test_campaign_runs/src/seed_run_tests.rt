@@ -1,7 +1,7 @@
 //! What no clause says of the first machine of a campaign and of one seed's run: that they are had
 //! where memory is left, with each request refused in turn.
 use crate::plans::{Order, draw_of};
-use campaign_runs::{Campaign, Ending, Form, Hangs, Properties, Report, run_seed};
+use campaign_runs::{Campaign, Ending, Form, Hangs, Properties, Report, Words, run_seed};
 use machine::{Inputs, Machine};
 use mem_flat::FlatStore;
 use object_library::{Kind, Verdict};
@@ -25,6 +25,7 @@ fn campaign_with(draw: Draw, properties: Properties, hangs: Hangs) -> Campaign {
         },
         properties,
         hangs,
+        words: Words::NONE,
         report: Report::Outcomes,
         form: Form::Text,
     }

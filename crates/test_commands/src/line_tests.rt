@@ -136,6 +136,8 @@ static LINES: [(&str, &str); 65] = [
         "campaign FILE=p inputs=7,9 first=1 count=2 steps=3 never-both=a..b"),
     ("rvcons campaign p --inputs 7,9 --first 1 --count 2 --steps 3 --always x",
         "campaign FILE=p inputs=7,9 first=1 count=2 steps=3 always=x"),
+    ("rvcons campaign p --inputs 7,9 --first 1 --count 2 --steps 3 --word a,b",
+        "campaign FILE=p inputs=7,9 first=1 count=2 steps=3 word=a,b"),
     ("rvcons campaign p --inputs 7,9 --first 1 --count 2 --steps 3 --jobs 4",
         "campaign FILE=p inputs=7,9 first=1 count=2 steps=3 jobs=4"),
     ("rvcons campaign p --inputs 7,9 --first 1 --count 2 --steps 3 --json",

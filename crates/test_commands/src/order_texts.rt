@@ -168,6 +168,7 @@ fn campaign_text(alloc: Global, order: &CampaignOrder) -> Result<String, AllocEr
         ("summary", flag(order.summary)),
         ("outcomes", flag(order.outcomes)),
         ("by-cause", flag(order.by_cause)),
+        ("word", order.word),
         ("schedule", order.draw),
         ("within", order.within),
         ("refusals", order.refusals),

@@ -5,7 +5,9 @@ ghost use Rattle.std.specs.Prelude.{◌≡◌};
 
 use byte_io::{Failing, FullSink, MemorySink, MemorySource, Status, Unheard};
 use cmd_asm::{AssemblyFault, assembled_file, listing_engine, write_file};
-use cmd_campaign::{Campaign, Form, Hangs, Jobs, OnThreads, Properties, Report, campaign_engine};
+use cmd_campaign::{
+    Campaign, Form, Hangs, Jobs, OnThreads, Properties, Report, Words, campaign_engine,
+};
 use cmd_debug::{DebugEngineFault, debug_engine};
 use cmd_replay::replay_engine;
 use cmd_run::{Exit, Expect, FileView, file_engine, run_engine};
@@ -186,6 +188,7 @@ fn three_seeds() -> Campaign
         expect: UNJUDGED,
         properties: Properties::NONE,
         hangs: Hangs::Unasked,
+        words: Words::NONE,
         report: Report::Lines,
         form: Form::Text,
     }

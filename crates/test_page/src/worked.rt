@@ -2,7 +2,7 @@
 ghost use Rattle.std.specs.Prelude.{◌+◌, ◌≤◌, ◌^◌};
 
 use byte_io::Status;
-use cmd_campaign::{Campaign, Form, Hangs, Properties, Report};
+use cmd_campaign::{Campaign, Form, Hangs, Properties, Report, Words};
 use cmd_explore::{OwnBounds, Question};
 use cmd_run::FileView;
 use cmd_schedule::SeedPlan;
@@ -156,6 +156,7 @@ fn three_seeds(report: Report) -> Campaign
         expect: FILE_RUN.expect(),
         properties: Properties::NONE,
         hangs: Hangs::Unasked,
+        words: Words::NONE,
         report,
         form: Form::Text,
     }
