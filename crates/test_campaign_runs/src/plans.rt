@@ -3,7 +3,7 @@ ghost use Rattle.std.specs.Prelude.{◌+◌, ◌≤◌, ◌^◌, IfSome};
 
 use byte_io::{Failing, MemorySink, MemorySource, Unheard};
 use campaign_runs::{Campaign, Form, Hangs, Properties, Report};
-use cmd_campaign::{Finished, Jobs, OnThreads, campaign_engine};
+use cmd_campaign::{Finished, Jobs, OnThreads, Unlimited, campaign_engine};
 use object_library::Kind;
 use outcome::{Exit, Expect};
 use program_open::CommandFault;
@@ -139,6 +139,7 @@ pub(crate) fn answered(
         alloc,
         program.inputs,
         campaign,
+        &mut Unlimited,
         &mut source,
         &mut sink,
         &mut Unheard,
