@@ -5,6 +5,7 @@ ghost use Rattle.std.specs.Prelude.{◌+◌, ◌-◌, ◌<◌, ◌≤◌, ◌^�
 use crate::bounded::obey_bounded;
 use crate::exiting::{exit_of, hangs_said};
 use crate::properties::{PropertyTexts, read_properties, show_properties};
+use crate::seconds::{Seconds, say_seeds, seconds_said};
 use crate::watching::Watching;
 use byte_io::{MemorySource, Progress, Source, Status, WriterSink};
 use cli_orders::CampaignOrder;
@@ -22,7 +23,7 @@ use cmd_campaign::{
 use program_open::{ProgramForm, write_text};
 use sched_draw::Order;
 use std::io;
-use std::rt::Files;
+use std::rt::{Clock, Files};
 use std::thread::Threads;
 
 // Shows a person how far a campaign is.
@@ -47,6 +48,13 @@ impl<'a, R: Eprint> Progress for Line<'a, R> {
             let _ = eprint!(self.rt; "{WIPE}{done} of {count} seeds done, {bad} {what}");
         }
     }
+}
+
+// How many threads do a campaign's runs, and how many seconds they may take, if that is said.
+#[derive(Clone, Copy)]
+struct Pace {
+    jobs: Jobs,
+    seconds: Option<u64>,
 }
 
 // What a bad seed is, as a sentence.
@@ -146,12 +154,13 @@ pub(crate) fn why_no_report(order: &CampaignOrder) -> &'static str {
 }
 
 /// Runs a program under the schedule of each seed. A person sees the progress.
-pub fn obey_campaign<R: Files + AllocGlobal + Print + Eprint + Threads + Sync>(
+pub fn obey_campaign<R: Files + AllocGlobal + Print + Eprint + Threads + Sync + Clock>(
     rt: &R,
     audience: Audience,
     order: &CampaignOrder,
 ) -> Result<RunStatus, Status> {
     let hangs = hangs_said(rt, order)?;
+    let seconds = seconds_said(rt, order)?;
     if let Some(preemptions) = order.preemptions {
         let status = obey_bounded(rt, audience, order, preemptions)?;
         return Ok(RunStatus::Of(status));
@@ -161,9 +170,10 @@ pub fn obey_campaign<R: Files + AllocGlobal + Print + Eprint + Threads + Sync>(
     let Some(jobs) = read_jobs(order.jobs) else {
         return Err(bad_line(rt, JOBS));
     };
+    let pace = Pace { jobs, seconds };
     let mut program = open_one(rt, audience, order.file)?;
     if order.has_properties() {
-        return report_judged(rt, audience, order, &inputs, campaign, jobs, &mut program);
+        return report_judged(rt, audience, order, &inputs, campaign, pace, &mut program);
     }
     Ok(report_campaign(
         rt,
@@ -171,20 +181,20 @@ pub fn obey_campaign<R: Files + AllocGlobal + Print + Eprint + Threads + Sync>(
         order,
         inputs.as_slice(),
         campaign,
-        jobs,
+        pace,
         &mut program,
     ))
 }
 
 // Reads the program, since the order's properties name its symbols, and reports a campaign in which
 // they are judged.
-fn report_judged<R: Files + AllocGlobal + Print + Eprint + Threads + Sync, P: Source>(
+fn report_judged<R: Files + AllocGlobal + Print + Eprint + Threads + Sync + Clock, P: Source>(
     rt: &R,
     audience: Audience,
     order: &CampaignOrder,
     inputs: &[u32],
     campaign: Campaign,
-    jobs: Jobs,
+    pace: Pace,
     program: &mut P,
 ) -> Result<RunStatus, Status>
     requires fits { campaign.first + campaign.count ≤ 2 ^ 64 }
@@ -195,17 +205,17 @@ fn report_judged<R: Files + AllocGlobal + Print + Eprint + Threads + Sync, P: So
     let mut campaign = campaign;
     campaign.properties = properties;
     let mut source = MemorySource::new(&bytes);
-    Ok(report_campaign(rt, audience, order, inputs, campaign, jobs, &mut source))
+    Ok(report_campaign(rt, audience, order, inputs, campaign, pace, &mut source))
 }
 
 // Runs a program under the schedule of each seed and reports it, with hints for a person.
-fn report_campaign<R: Files + AllocGlobal + Print + Eprint + Threads + Sync, P: Source>(
+fn report_campaign<R: Files + AllocGlobal + Print + Eprint + Threads + Sync + Clock, P: Source>(
     rt: &R,
     audience: Audience,
     order: &CampaignOrder,
     inputs: &[u32],
     campaign: Campaign,
-    jobs: Jobs,
+    pace: Pace,
     program: &mut P,
 ) -> RunStatus
     requires fits { campaign.first + campaign.count ≤ 2 ^ 64 }
@@ -227,9 +237,21 @@ fn report_campaign<R: Files + AllocGlobal + Print + Eprint + Threads + Sync, P: 
         bad: what_is_bad(order, campaign.expect),
         is_shown: false,
     };
-    let runner = &OnThreads { rt, jobs };
+    let runner = &OnThreads {
+        rt,
+        jobs: pace.jobs,
+    };
+    let mut limit = Seconds::new(rt, pace.seconds);
     let answer = if order.until_failure {
-        match until_failure_engine(runner, rt.alloc(), inputs, campaign, program, &mut line) {
+        match until_failure_engine(
+            runner,
+            rt.alloc(),
+            inputs,
+            campaign,
+            &mut limit,
+            program,
+            &mut line,
+        ) {
             Ok((text, finished)) => match write_text(&mut sink, text.as_bytes()) {
                 Ok(()) => Ok(finished),
                 Err(fault) => Err(fault),
@@ -242,6 +264,7 @@ fn report_campaign<R: Files + AllocGlobal + Print + Eprint + Threads + Sync, P: 
             rt.alloc(),
             inputs,
             campaign,
+            &mut limit,
             program,
             &mut sink,
             &mut line,
@@ -252,6 +275,7 @@ fn report_campaign<R: Files + AllocGlobal + Print + Eprint + Threads + Sync, P: 
     }
     match answer {
         Ok(finished) => {
+            say_seeds(rt, order, campaign.count, finished);
             if audience.is_told() {
                 let _ = name_places(rt, order, sink.passed());
                 let _ = match finished.first_failure {

@@ -10,5 +10,6 @@ mod campaign;
 mod exiting;
 mod explore;
 mod properties;
+mod seconds;
 mod shrink;
 mod watching;
