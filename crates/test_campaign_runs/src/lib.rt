@@ -9,6 +9,9 @@ mod failure_tests;
 // Whether runs hang.
 #[cfg(test)]
 mod hang_tests;
+// Campaigns that a limit ends.
+#[cfg(test)]
+mod limit_tests;
 // What the tests share.
 #[cfg(test)]
 mod plain_runs;
