@@ -5,7 +5,7 @@ use crate::help::{
     ALWAYS, BANKED, BOUNDS, BROKEN_WORD, BUDGET, BY_CAUSE, CHOICES_OF, COUNT, DRAW,
     DRAW_OF_SCHEDULE, FILE, FIRST, HANGS, HANGS_OF_RUN, HANGS_OF_RUNS, HEX, HISTORY, INPUTS,
     INPUTS_OF_SCHEDULE, JOBS, JSON, JSON_LINES, MUST_EXIT, NEVER_BOTH, OUTCOMES, PREEMPTIONS,
-    REFUSALS, REFUSE, RULE, SC_REFUSALS, SHARED_RANGE, STEPS_OF_CAMPAIGN, SUMMARY, TOTAL,
+    REFUSALS, REFUSE, RULE, SC_REFUSALS, SECONDS, SHARED_RANGE, STEPS_OF_CAMPAIGN, SUMMARY, TOTAL,
     UNTIL_FAILURE, WAYS_OUT, WITHIN, WORDS, WORLDS, WRITTEN,
 };
 
@@ -228,6 +228,7 @@ static ROW_OF_CAMPAIGN: CommandRow = CommandRow {
         Argument::Optional("never-both", NEVER_BOTH),
         Argument::Optional("always", ALWAYS),
         Argument::Optional("jobs", JOBS),
+        Argument::Optional("seconds", SECONDS),
         Argument::Optional("preemptions", PREEMPTIONS),
         Argument::With("choices-of", "preemptions", CHOICES_OF),
         Argument::Flag("json", JSON_LINES),

@@ -150,6 +150,10 @@ pub(crate) const CHOICES_OF: &str = "with --preemptions: print the choices of th
 pub(crate) const JOBS: &str =
     "how many threads do the runs, 1 to 64; as suits the processors is usual";
 
+/// Of `--seconds`.
+pub(crate) const SECONDS: &str =
+    "how many seconds the runs may take: then it ends with the seeds that are done, and says how many";
+
 /// Of `--schedule` of `schedule`.
 pub(crate) const DRAW_OF_SCHEDULE: &str =
     "how a seed draws them: even, bursts:MEAN, each of one hart, or in a run of FILE: priorities:DEPTH, or mixed";

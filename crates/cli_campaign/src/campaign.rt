@@ -5,6 +5,7 @@ ghost use Rattle.std.specs.Prelude.{◌+◌, ◌-◌, ◌<◌, ◌≤◌, ◌^�
 use crate::bounded::obey_bounded;
 use crate::exiting::{exit_of, hangs_said};
 use crate::properties::{PropertyTexts, read_properties, show_properties};
+use crate::seconds::{Seconds, say_seeds, seconds_said};
 use crate::watching::Watching;
 use crate::words::{read_words, refuse_word, show_words};
 use byte_io::{MemorySource, Progress, Source, Status};
@@ -22,7 +23,7 @@ use cmd_campaign::{
 };
 use program_open::{CommandFault, ProgramForm, write_text};
 use sched_draw::Order;
-use std::rt::Files;
+use std::rt::{Clock, Files};
 use std::thread::Threads;
 
 // Shows a person how far a campaign is.
@@ -47,6 +48,13 @@ impl<'a, R: Eprint> Progress for Line<'a, R> {
             let _ = eprint!(self.rt; "{WIPE}{done} of {count} seeds done, {bad} {what}");
         }
     }
+}
+
+// How many threads do a campaign's runs, and how many seconds they may take, if that is said.
+#[derive(Clone, Copy)]
+struct Pace {
+    jobs: Jobs,
+    seconds: Option<u64>,
 }
 
 // What a bad seed is, as a sentence.
@@ -148,13 +156,14 @@ pub(crate) fn why_no_report(order: &CampaignOrder) -> &'static str {
 }
 
 /// Runs a program under the schedule of each seed. A person sees the progress.
-pub fn obey_campaign<R: Files + AllocGlobal + Print + Eprint + Threads + Sync>(
+pub fn obey_campaign<R: Files + AllocGlobal + Print + Eprint + Threads + Sync + Clock>(
     rt: &R,
     audience: Audience,
     order: &CampaignOrder,
 ) -> Result<RunStatus, Status> {
     let hangs = hangs_said(rt, order)?;
     refuse_word(rt, order)?;
+    let seconds = seconds_said(rt, order)?;
     if let Some(preemptions) = order.preemptions {
         let status = obey_bounded(rt, audience, order, preemptions)?;
         return Ok(RunStatus::Of(status));
@@ -164,9 +173,10 @@ pub fn obey_campaign<R: Files + AllocGlobal + Print + Eprint + Threads + Sync>(
     let Some(jobs) = read_jobs(order.jobs) else {
         return Err(bad_line(rt, JOBS));
     };
+    let pace = Pace { jobs, seconds };
     let mut program = open_one(rt, audience, order.file)?;
     if order.names_symbols() {
-        return report_named(rt, audience, order, &inputs, campaign, jobs, &mut program);
+        return report_named(rt, audience, order, &inputs, campaign, pace, &mut program);
     }
     Ok(report_campaign(
         rt,
@@ -174,20 +184,20 @@ pub fn obey_campaign<R: Files + AllocGlobal + Print + Eprint + Threads + Sync>(
         order,
         inputs.as_slice(),
         campaign,
-        jobs,
+        pace,
         &mut program,
     ))
 }
 
 // Reads the program, since the order's properties and words name its symbols, and reports the
 // campaign with them.
-fn report_named<R: Files + AllocGlobal + Print + Eprint + Threads + Sync, P: Source>(
+fn report_named<R: Files + AllocGlobal + Print + Eprint + Threads + Sync + Clock, P: Source>(
     rt: &R,
     audience: Audience,
     order: &CampaignOrder,
     inputs: &[u32],
     campaign: Campaign,
-    jobs: Jobs,
+    pace: Pace,
     program: &mut P,
 ) -> Result<RunStatus, Status>
     requires fits { campaign.first + campaign.count ≤ 2 ^ 64 }
@@ -199,17 +209,17 @@ fn report_named<R: Files + AllocGlobal + Print + Eprint + Threads + Sync, P: Sou
     campaign.properties = properties;
     campaign.words = read_words(rt, order, &bytes)?;
     let mut source = MemorySource::new(&bytes);
-    Ok(report_campaign(rt, audience, order, inputs, campaign, jobs, &mut source))
+    Ok(report_campaign(rt, audience, order, inputs, campaign, pace, &mut source))
 }
 
 // Runs a program under the schedule of each seed and reports it, with hints for a person.
-fn report_campaign<R: Files + AllocGlobal + Print + Eprint + Threads + Sync, P: Source>(
+fn report_campaign<R: Files + AllocGlobal + Print + Eprint + Threads + Sync + Clock, P: Source>(
     rt: &R,
     audience: Audience,
     order: &CampaignOrder,
     inputs: &[u32],
     campaign: Campaign,
-    jobs: Jobs,
+    pace: Pace,
     program: &mut P,
 ) -> RunStatus
     requires fits { campaign.first + campaign.count ≤ 2 ^ 64 }
@@ -231,9 +241,21 @@ fn report_campaign<R: Files + AllocGlobal + Print + Eprint + Threads + Sync, P: 
         bad: what_is_bad(order, campaign.expect),
         is_shown: false,
     };
-    let runner = &OnThreads { rt, jobs };
+    let runner = &OnThreads {
+        rt,
+        jobs: pace.jobs,
+    };
+    let mut limit = Seconds::new(rt, pace.seconds);
     let answer = if order.until_failure {
-        match until_failure_engine(runner, rt.alloc(), inputs, campaign, program, &mut line) {
+        match until_failure_engine(
+            runner,
+            rt.alloc(),
+            inputs,
+            campaign,
+            &mut limit,
+            program,
+            &mut line,
+        ) {
             Ok((text, finished)) => match write_text(&mut sink, text.as_bytes()) {
                 Err(fault) if sink.inner().has_reader() => Err(fault),
                 Ok(()) | Err(_) => Ok(finished),
@@ -246,6 +268,7 @@ fn report_campaign<R: Files + AllocGlobal + Print + Eprint + Threads + Sync, P: 
             rt.alloc(),
             inputs,
             campaign,
+            &mut limit,
             program,
             &mut sink,
             &mut line,
@@ -256,6 +279,7 @@ fn report_campaign<R: Files + AllocGlobal + Print + Eprint + Threads + Sync, P: 
     }
     match answer {
         Ok(finished) => {
+            say_seeds(rt, order, campaign.count, finished);
             if audience.is_told() {
                 let _ = name_places(rt, order, sink.passed());
                 if campaign.form == Form::Text {

@@ -10,6 +10,7 @@ mod campaign;
 mod exiting;
 mod explore;
 mod properties;
+mod seconds;
 mod shrink;
 mod watching;
 mod words;

@@ -6,7 +6,7 @@ use cli_args::{is_set, text_of};
 /// `campaign FILE --inputs L --first S --count C --steps N [--rule K] [--failures]
 /// [--until-failure] [--summary] [--outcomes] [--word W] [--by-cause] [--schedule KIND]
 /// [--within N] [--refusals never|one-in:N] [--must-exit] [--hangs] [--never-both R] [--always P]
-/// [--jobs J] [--json]`:
+/// [--jobs J] [--seconds N] [--json]`:
 /// runs a program under a random schedule for each of C seeds from S on, and prints a line for each, with a
 /// rule also its verdict; or the lines of bad seeds alone, or of the first of them, or how many seeds
 /// end in which way. With `--preemptions K [--choices-of N]` it does so for every schedule with at most K
@@ -54,6 +54,8 @@ pub struct CampaignOrder<'a> {
     pub always: Option<&'a str>,
     /// How many threads may do runs at a time.
     pub jobs: Option<&'a str>,
+    /// After how many seconds the campaign ends.
+    pub seconds: Option<&'a str>,
     /// How many preemptions a schedule has at most, in place of seeds.
     pub preemptions: Option<&'a str>,
     /// The schedule whose choices alone are printed.
@@ -97,6 +99,7 @@ pub(crate) fn campaign_order<'a>(matches: &ArgMatches<'a>) -> Option<CampaignOrd
         never_both: text_of(matches, "never-both"),
         always: text_of(matches, "always"),
         jobs: text_of(matches, "jobs"),
+        seconds: text_of(matches, "seconds"),
         preemptions: text_of(matches, "preemptions"),
         choices_of: text_of(matches, "choices-of"),
         json: is_set(matches, "json"),

@@ -1,5 +1,6 @@
 pub mod Draws
 pub mod Schedules
+pub mod Seconds
 pub mod CampaignPlans
 pub mod Reports
 pub mod Explorations

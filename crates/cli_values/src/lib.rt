@@ -11,6 +11,7 @@ pub use draw::{
 pub use explore::{WORLDS, read_worlds};
 pub use jobs::{JOBS, read_jobs};
 pub use schedule::{read_schedule, read_seed_plan};
+pub use seconds::{SECONDS, read_seconds};
 
 mod bounds;
 mod campaign;
@@ -18,3 +19,4 @@ mod draw;
 mod explore;
 mod jobs;
 mod schedule;
+mod seconds;

@@ -26,10 +26,11 @@ module _ (campaign : BoundedCampaign) (inputs : List ℕ) where
   pub range_reported : (old new : List Led) (count : ℕ) (before after : ToldValue) (lines text : List ℕ) (finished : Finished)
       → before ≡ nothing_told → TellsRange campaign inputs old count before after new
       → finished.status ≡ status_by after.is_broken (is_some after.first_failure) → finished.first_failure ≡ after.first_failure
+      → finished.seeds ≡ count
       → lines ≡ after.text ++ schedules_entries campaign.form after.rows → text ≡ lines ++ covered_line campaign count new
       → (text, finished) ≡ reported_range campaign inputs old
   unfolding reported_range
-  range_reported old new count before after lines text finished empty tells status first rows covered =
+  range_reported old new count before after lines text finished empty tells status first runs rows covered =
       let ends = range_ends old in
       let v : after ≡ told_after campaign.form campaign.report campaign.expect.exit nothing_told ends
       = tells.told ∙ ap (λ b. told_after campaign.form campaign.report campaign.expect.exit b ends) empty in
@@ -44,5 +45,6 @@ module _ (campaign : BoundedCampaign) (inputs : List ℕ) where
         record {
           status = (status ∙ ap (λ (u : ToldValue). status_by u.is_broken (is_some u.first_failure)) v) i;
           first_failure = (first ∙ ap (λ (u : ToldValue). u.first_failure) v) i;
+          seeds = (runs ∙ n) i;
         },
       )

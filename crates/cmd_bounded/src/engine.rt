@@ -57,7 +57,7 @@ fn report_range<S: FromImage<A>, A: Allocator + Copy>(
 {
     let mut told = Told::new(alloc);
     let count = tell_range(alloc, walk, inputs, campaign, &mut told, progress)?;
-    let finished = told.finished();
+    let finished = told.finished(count);
     let mut text = told.text;
     push_rows(&mut text, campaign.form, &told.tally)?;
     push_covered(alloc, &mut text, walk, campaign, count)?;

@@ -60,14 +60,16 @@ impl<A: Allocator + Copy> Told<A> {
         count_end(&mut self.tally, campaign.report, end)
     }
 
-    /// The end of these runs.
-    pub(crate) fn finished(&self) -> Finished
+    /// The end of these runs, of which there are so many.
+    pub(crate) fn finished(&self, runs: u64) -> Finished
         ensures status { result.status ≡ status_by self.now.is_broken (is_some self.now.first_failure) }
         ensures first { result.first_failure ≡ self.now.first_failure }
+        ensures runs { result.seeds ≡ runs }
     {
         Finished {
             status: status_by(self.is_broken, self.first_failure.is_some()),
             first_failure: self.first_failure,
+            seeds: runs,
         }
     }
 }

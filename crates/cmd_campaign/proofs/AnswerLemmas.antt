@@ -16,9 +16,10 @@ use Rattle.program_open.specs.Answers.{Answer, BeginsToPrint, Begins, Prints}
 use Rattle.program_open.proofs.FaultLemmas.{names_so}
 use Rattle.campaign_runs.specs.Runs.{all_endings}
 use Rattle.campaign_runs.specs.declared.campaign.Campaign.{Campaign}
-use Rattle.byte_io.specs.declared.status.Status.{Status}
 use Rattle.cmd_campaign.specs.Answers.{after_image, campaign_answer, campaign_failure, first_failure_after, reported}
+use Rattle.cmd_campaign.specs.First.{first_endings, first_seeds, ForFirst}
 use Rattle.cmd_campaign.specs.Status.{campaign_end}
+use Rattle.cmd_campaign.specs.Summary.{report_text}
 use Rattle.cmd_campaign.specs.declared.engine.Finished.{Finished}
 
 module _ (campaign : Campaign) (inputs : List ℕ) where
@@ -72,32 +73,35 @@ module _ (campaign : Campaign) (inputs : List ℕ) where
   unread_known (Some p) why reads = ap (after_image campaign inputs) reads
 
   module _ (left : Option (List ℕ)) (image : ImageValue) (reads : IfSome left (λ p. program_of form.Elf p ≡ Ok image)) where
-    pub image_known : (P : Answer → Type 0) → P (after_image campaign inputs (Ok image)) → IfSome left (λ p. P (campaign_answer campaign inputs p))
+    -- for any campaign
+    pub image_known : (P : (Campaign → Answer) → Type 0) → P (λ each. after_image each inputs (Ok image))
+        → IfSome left (λ p. P (λ each. campaign_answer each inputs p))
     unfolding campaign_answer
     image_known P h = go left reads
       where
-        go : (o : Option (List ℕ)) → IfSome o (λ p. program_of form.Elf p ≡ Ok image) → IfSome o (λ p. P (campaign_answer campaign inputs p))
+        go : (o : Option (List ℕ)) → IfSome o (λ p. program_of form.Elf p ≡ Ok image) → IfSome o (λ p. P (λ each. campaign_answer each inputs p))
         go None r = tt
-        go (Some p) r = subst P (sym (ap (after_image campaign inputs) r)) h
+        go (Some p) r = subst P (sym (ap (λ read each. after_image each inputs read) r)) h
 
-    -- all lines
+    -- all lines of the first seeds
     pub done_known : (r : Result Finished CommandFault) (old new : Option (List ℕ))
-        → IfOk r (λ f. Prints (after_image campaign inputs (Ok image)) f.status old new)
-        → IfOk r (λ f. IfSome left (λ p. Prints (campaign_answer campaign inputs p) f.status old new))
-    done_known (Ok f) old new h = image_known (λ a. Prints a f.status old new) h
+        → IfOk r (λ f. Prints (after_image (first_seeds f.seeds campaign) inputs (Ok image)) f.status old new)
+        → IfOk r (λ f. IfSome left (λ p. Prints (campaign_answer (first_seeds f.seeds campaign) inputs p) f.status old new))
+    done_known (Ok f) old new h = image_known (λ answers. Prints (answers (first_seeds f.seeds campaign)) f.status old new) h
     done_known (Err why) old new h = h
 
-    -- the first seed whose run has failed
+    -- the first seed among them whose run has failed
     pub first_known : (r : Result Finished CommandFault)
-        → IfOk r (λ f. f ≡ campaign_end campaign.expect.exit (all_endings campaign image inputs))
-        → IfOk r (λ f. IfSome left (λ p. f.first_failure ≡ campaign_failure campaign inputs p))
+        → IfOk r (λ f. f ≡ campaign_end campaign.expect.exit (first_endings f.seeds campaign image inputs))
+        → IfOk r (λ f. IfSome left (λ p. f.first_failure ≡ campaign_failure (first_seeds f.seeds campaign) inputs p))
     unfolding campaign_failure
     first_known (Ok f) h = go left reads
       where
         go : (o : Option (List ℕ)) → IfSome o (λ p. program_of form.Elf p ≡ Ok image)
-            → IfSome o (λ p. f.first_failure ≡ campaign_failure campaign inputs p)
+            → IfSome o (λ p. f.first_failure ≡ campaign_failure (first_seeds f.seeds campaign) inputs p)
         go None r = tt
-        go (Some p) r = ap (λ (x : Finished). x.first_failure) h ∙ sym (ap (first_failure_after campaign inputs) r)
+        go (Some p) r =
+            ap (λ (x : Finished). x.first_failure) h ∙ sym (ap (first_failure_after (first_seeds f.seeds campaign) inputs) r)
     first_known (Err why) h = h
 
     -- a refusal
@@ -105,27 +109,47 @@ module _ (campaign : Campaign) (inputs : List ℕ) where
         → IfErr r (λ why. IsRefusal why → after_image campaign inputs (Ok image) ≡ Err why)
         → IfErr r (λ why. IsRefusal why → IfSome left (λ p. campaign_answer campaign inputs p ≡ Err why))
     refused_known (Ok s) h = h
-    refused_known (Err why) h = λ refusal. image_known (λ a. a ≡ Err why) (h refusal)
+    refused_known (Err why) h = λ refusal. image_known (λ answers. answers campaign ≡ Err why) (h refusal)
+
+    -- a write failed
+    pub begun_known : (never : Type 0) (old new : Option (List ℕ))
+        → ForFirst never campaign.count (λ n. BeginsToPrint (after_image (first_seeds n campaign) inputs (Ok image)) old new)
+        → IfSome left (λ p. ForFirst never campaign.count (λ n. BeginsToPrint (campaign_answer (first_seeds n campaign) inputs p) old new))
+    begun_known never old new h =
+        image_known (λ answers. ForFirst never campaign.count (λ n. BeginsToPrint (answers (first_seeds n campaign)) old new)) h
 
     -- memory was refused before the first block or later
-    pub halted_known : (K : Type 0) (old new : Option (List ℕ))
-        → K ⊎ BeginsToPrint (after_image campaign inputs (Ok image)) old new
-        → IfSome left (λ p. K ⊎ BeginsToPrint (campaign_answer campaign inputs p) old new)
-    halted_known K old new h = image_known (λ a. K ⊎ BeginsToPrint a old new) h
+    pub halted_known : (K never : Type 0) (old new : Option (List ℕ))
+        → K ⊎ ForFirst never campaign.count (λ n. BeginsToPrint (after_image (first_seeds n campaign) inputs (Ok image)) old new)
+        → IfSome left (λ p. K ⊎ ForFirst never campaign.count (λ n. BeginsToPrint (campaign_answer (first_seeds n campaign) inputs p) old new))
+    halted_known K never old new h =
+        image_known (λ answers. K ⊎ ForFirst never campaign.count (λ n. BeginsToPrint (answers (first_seeds n campaign)) old new)) h
 
--- a beginning of the report, after a fault that halted the runs
-pub begins_answer : (r : Result Finished CommandFault) (why : CommandFault) (answer : Answer) (lines : List ℕ) (status : Status) (old new : Option (List ℕ))
-    → answer ≡ Ok (lines, status) → IfErr r (λ _. Begins lines old new) → r ≡ Err why → BeginsToPrint answer old new
-begins_answer r why answer lines status old new shown begun is =
-    subst (λ a. BeginsToPrint a old new) (sym shown) (subst (λ x. IfErr x (λ _. Begins lines old new)) is begun)
+-- ---- the runs of an image
+module _ (campaign : Campaign) (inputs : List ℕ) (image : ImageValue) (startable : IsStartable inputs) where
+  abbrev first_report : ℕ → List ℕ
+  first_report n = report_text campaign.form campaign.report campaign.expect.exit (first_endings n campaign image inputs)
 
--- the whole report, where the runs came to their end
-pub done_answer : (r : Result Finished CommandFault) (answer : Answer) (lines : List ℕ) (wanted : Finished) (old new : Option (List ℕ))
-    → answer ≡ Ok (lines, wanted.status) → IfOk r (λ _. Appends old new lines) → IfOk r (λ f. f ≡ wanted)
-    → IfOk r (λ f. Prints answer f.status old new)
-done_answer (Ok f) answer lines wanted old new shown written is =
-    subst (λ a. Prints a f.status old new) (sym shown) (ap (λ (x : Finished). x.status) (sym is), written)
-done_answer (Err why) answer lines wanted old new shown written is = is
+  -- a beginning of the report of the first seeds, after a fault that halted the runs
+  pub begins_answer : (never : Type 0) (r : Result Finished CommandFault) (why : CommandFault) (old new : Option (List ℕ))
+      → IfErr r (λ _. ForFirst never campaign.count (λ n. Begins (first_report n) old new)) → r ≡ Err why
+      → ForFirst never campaign.count (λ n. BeginsToPrint (after_image (first_seeds n campaign) inputs (Ok image)) old new)
+  begins_answer never r why old new begun is =
+      let h = subst (λ x. IfErr x (λ _. ForFirst never campaign.count (λ n. Begins (first_report n) old new))) is begun in (
+        h.0,
+        (h.1.0, (h.1.1.0, subst (λ answer. BeginsToPrint answer old new)
+            (sym (answer_of_runs (first_seeds h.0 campaign) inputs image startable)) h.1.1.1)),
+      )
+
+  -- the whole report of the first seeds, where the runs came to their end
+  pub done_answer : (r : Result Finished CommandFault) (old new : Option (List ℕ))
+      → IfOk r (λ f. Appends old new (first_report f.seeds))
+      → IfOk r (λ f. f ≡ campaign_end campaign.expect.exit (first_endings f.seeds campaign image inputs))
+      → IfOk r (λ f. Prints (after_image (first_seeds f.seeds campaign) inputs (Ok image)) f.status old new)
+  done_answer (Ok f) old new written is =
+      subst (λ answer. Prints answer f.status old new) (sym (answer_of_runs (first_seeds f.seeds campaign) inputs image startable))
+      (ap (λ (x : Finished). x.status) (sym is), written)
+  done_answer (Err why) old new written is = is
 
 -- ---- the device that a fault names
 -- none, if the inputs are invalid

@@ -36,6 +36,7 @@ use Rattle.campaign_runs.specs.declared.campaign.Report.TheVariants.{Lines, Fail
 use Rattle.campaign_runs.specs.declared.words.Words.{Words}
 use Rattle.byte_io.specs.declared.status.Status.TheVariants as status
 use Rattle.cmd_campaign.specs.Answers.{after_image, campaign_answer}
+use Rattle.cmd_campaign.specs.First.{first_endings, first_seeds}
 use Rattle.cmd_campaign.specs.Kept.{AllKept, AnswersNothing}
 use Rattle.cmd_campaign.specs.Lines.{end_entry, report_entries, has_failed}
 use Rattle.cmd_campaign.specs.Summary.{report_text}
@@ -199,20 +200,22 @@ module _ (campaign : Campaign) (inputs : List ℕ) (image : ImageValue) where
       × AllKept (all_endings campaign object.image inputs)
 
   certified : (finished : Finished) (p : List ℕ) → All (λ x. x < 2 ^ 32) inputs → IsStartable inputs → program_of form.Elf p ≡ Ok image
-      → finished ≡ campaign_end campaign.expect.exit (all_endings campaign image inputs) → Certifies finished p
+      → finished ≡ campaign_end campaign.expect.exit (first_endings finished.seeds campaign image inputs) → Certifies finished p
   certified finished p words startable reads is = λ object.
-      let seeds = range_with_len campaign.first campaign.count in
       let one : object.image ≡ image = same_image object.image image (sym object.reads ∙ reads) in
-      let status : finished.status ≡ campaign_status campaign.expect.exit (all_endings campaign object.image inputs)
-      = ap (λ (f : Finished). f.status) is ∙ ap (λ i. campaign_status campaign.expect.exit (all_endings campaign i inputs)) (sym one) in (
+      let status : finished.status ≡ campaign_status campaign.expect.exit (first_endings finished.seeds campaign object.image inputs)
+      = ap (λ (f : Finished). f.status) is
+      ∙ ap (λ i. campaign_status campaign.expect.exit (first_endings finished.seeds campaign i inputs)) (sym one) in (
         (λ bare. subst (IsUnbroken campaign.expect.exit) (sym status)
-            (unbroken object.kind object.image campaign inputs startable.0 object.same object.meant words object.ruled bare campaign.expect.exit seeds)),
-        all_kept object.kind object.image campaign inputs startable.0 object.same object.meant words object.ruled seeds,
+            (unbroken object.kind object.image (first_seeds finished.seeds campaign) inputs startable.0 object.same object.meant words object.ruled bare
+            campaign.expect.exit (range_with_len campaign.first finished.seeds))),
+        all_kept object.kind object.image campaign inputs startable.0 object.same object.meant words object.ruled
+            (range_with_len campaign.first campaign.count),
       )
 
   pub certified_known : (left : Option (List ℕ)) (r : Result Finished CommandFault) → IfSome left (λ p. program_of form.Elf p ≡ Ok image)
       → IfOk r (λ _. All (λ x. x < 2 ^ 32) inputs) → IfOk r (λ _. IsStartable inputs)
-      → IfOk r (λ f. f ≡ campaign_end campaign.expect.exit (all_endings campaign image inputs))
+      → IfOk r (λ f. f ≡ campaign_end campaign.expect.exit (first_endings f.seeds campaign image inputs))
       → IfOk r (λ f. IfSome left (λ p. Certifies f p))
   certified_known None (Ok f) reads words startable is = tt
   certified_known (Some p) (Ok f) reads words startable is = certified f p words startable reads is

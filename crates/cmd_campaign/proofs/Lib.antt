@@ -1,5 +1,6 @@
 pub mod RowLemmas
 pub mod TallyLemmas
+pub mod FirstLemmas
 pub mod ReportLemmas
 pub mod BlockLemmas
 pub mod AnswerLemmas

@@ -9,12 +9,16 @@ use Rattle.std.specs.Io.KnownBytes.{Appends, Keeps}
 use Rattle.program_open.specs.Answers.{Begins}
 use Rattle.outcome.specs.declared.expect.Exit.{Exit}
 use Rattle.cmd_form.specs.declared.form.Form.{Form}
-use Rattle.campaign_runs.specs.Runs.{SeedEnding}
+use Rattle.image.specs.Image.{ImageValue}
+use Rattle.campaign_runs.specs.Runs.{SeedEnding, all_endings}
 use Rattle.campaign_runs.specs.Tally.{TallyRow, tally_of}
+use Rattle.campaign_runs.specs.declared.campaign.Campaign.{Campaign}
 use Rattle.campaign_runs.specs.declared.campaign.Report.{Report}
 use Rattle.campaign_runs.specs.declared.campaign.Report.TheVariants.{Lines, Failures, Summary, Outcomes, Causes}
+use Rattle.cmd_campaign.specs.First.{first_endings, ForFirst}
 use Rattle.cmd_campaign.specs.Lines.{report_entries}
 use Rattle.cmd_campaign.specs.Summary.{counted_of, report_text, rows_text, IsSummary}
+use Rattle.cmd_campaign.proofs.FirstLemmas.{first_of_all}
 
 -- ---- beginnings of texts
 -- what is appended is also a beginning of anything that goes on after it
@@ -144,3 +148,12 @@ module _ (form : Form) (exit : Exit) where
       → Appends old now (report_entries form report exit ends) → Keeps now new → Keeps old new
   summary_unwritten report ends old now new summary h kept =
       keeps-trans old now new (keeps_with_none old now (subst (Appends old now) (no_entries report ends summary) h)) kept
+
+-- a beginning of the report of all seeds is one of the first seeds, so many as there are
+pub for_all : (campaign : Campaign) (image : ImageValue) (inputs : List ℕ) (never : Type 0) (old new : Option (List ℕ))
+    → Begins (report_text campaign.form campaign.report campaign.expect.exit (all_endings campaign image inputs)) old new
+    → ForFirst never campaign.count
+    (λ n. Begins (report_text campaign.form campaign.report campaign.expect.exit (first_endings n campaign image inputs)) old new)
+for_all campaign image inputs never old new h = (campaign.count, (omega arith, ((λ _. refl), subst
+    (λ ends. Begins (report_text campaign.form campaign.report campaign.expect.exit ends) old new)
+    (sym (first_of_all campaign image inputs campaign.count refl)) h)))

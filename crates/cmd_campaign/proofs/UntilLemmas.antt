@@ -1,17 +1,19 @@
 -- The first run that has failed.
-use Rattle.std.proofs.Common.{◌≡◌, ℕ, Bool, true, false, cond, rules, List, [], ◌∷◌, ◌++◌, Option, Some, None, refl, ap, sym, subst, ◌∙◌}
+use Rattle.std.proofs.Common.{◌≡◌, ℕ, ◌+◌, ◌^◌, ◌<◌, ◌≤◌, Bool, true, false, cond, rules, List, [], ◌∷◌, ◌++◌, length, Option, Some, None, append-nil, append_assoc, refl, arith, ap, ap₂, sym, subst, ◌∙◌}
+use Rattle.std.proofs.lemmas.List.{length-append}
 use Rattle.std.proofs.lemmas.List.Elements.{All-nil, All-cons}
 use Rattle.image.specs.Image.{ImageValue}
 use Rattle.outcome.specs.declared.expect.Exit.{Exit}
 use Rattle.cmd_form.specs.declared.form.Form.{Form}
-use Rattle.campaign_runs.specs.Runs.{SeedEnding, endings_of}
+use Rattle.campaign_runs.specs.Runs.{SeedEnding, all_endings}
 use Rattle.campaign_runs.specs.declared.campaign.Campaign.{Campaign}
 use Rattle.cmd_campaign.specs.Lines.{has_failed}
-use Rattle.byte_io.specs.declared.status.Status.TheVariants as status
 use Rattle.cmd_campaign.specs.Status.{first_failure}
 use Rattle.cmd_campaign.specs.declared.engine.Finished.{Finished}
 use Rattle.cmd_campaign.specs.Until.{first_failing, ended_at, IsFirstFailing, NoneFailed}
-use Rattle.cmd_campaign.proofs.BlockLemmas.{endings_none, split}
+use Rattle.cmd_campaign.specs.First.{first_endings}
+use Rattle.cmd_campaign.proofs.FirstLemmas.{first_runs, no_more}
+use Rattle.cmd_campaign.proofs.TallyLemmas.{as_many}
 
 module _ (exit : Exit) where
   abbrev Succeeded : SeedEnding → Type 0
@@ -77,39 +79,109 @@ module _ (exit : Exit) where
       by false e none rest = All-cons Succeeded run ends e (rest none)
 
   -- its seed is the first failure
-  pub same_seed : (form : Form) (ends : List SeedEnding) → (ended_at form exit (first_failing exit ends)).1.first_failure ≡ first_failure exit ends
-  same_seed form [] = refl
-  same_seed form (run ∷ ends) = by (has_failed exit run) (same_seed form ends)
+  pub same_seed : (form : Form) (seeds : ℕ) (ends : List SeedEnding)
+      → (ended_at form exit seeds (first_failing exit ends)).1.first_failure ≡ first_failure exit ends
+  same_seed form seeds [] = refl
+  same_seed form seeds (run ∷ ends) = by (has_failed exit run) (same_seed form seeds ends)
     where
-      by : (failed : Bool) → (ended_at form exit (first_failing exit ends)).1.first_failure ≡ first_failure exit ends
-          → (ended_at form exit (cond failed (Some run) (first_failing exit ends))).1.first_failure ≡ cond failed (Some run.seed) (first_failure exit ends)
+      by : (failed : Bool) → (ended_at form exit seeds (first_failing exit ends)).1.first_failure ≡ first_failure exit ends
+          → (ended_at form exit seeds (cond failed (Some run) (first_failing exit ends))).1.first_failure ≡ cond failed (Some run.seed) (first_failure exit ends)
       by true rest = refl
       by false rest = rest
 
-  -- ---- the seeds that are left, of which a block is taken
-  module _ (campaign : Campaign) (image : ImageValue) (inputs : List ℕ) where
-    pub found_in_block : (left block after : List ℕ) (ends : List SeedEnding) (end : SeedEnding) (all : List SeedEnding)
-        → left ≡ block ++ after → ends ≡ endings_of campaign image inputs block → first_failing exit ends ≡ Some end
-        → first_failing exit (endings_of campaign image inputs left) ≡ first_failing exit all → first_failing exit all ≡ Some end
-    found_in_block left block after ends end all order is found so_far =
-        sym so_far ∙ ap (first_failing exit) (split campaign image inputs left block after ends order is)
-        ∙ failing_in_front ends (endings_of campaign image inputs after) end found
+  -- so many runs are done, and none of them has failed; the others are to come
+  pub record Unfailed (all left : List SeedEnding) (number : ℕ) : Type 0 where
+    pub done : List SeedEnding
+    pub order : all ≡ done ++ left
+    pub counting : number ≡ length done
+    pub none : first_failing exit done ≡ None
 
-    pub none_in_block : (left block after : List ℕ) (ends : List SeedEnding) (all : List SeedEnding)
-        → left ≡ block ++ after → ends ≡ endings_of campaign image inputs block → first_failing exit ends ≡ None
-        → first_failing exit (endings_of campaign image inputs left) ≡ first_failing exit all
-        → first_failing exit (endings_of campaign image inputs after) ≡ first_failing exit all
-    none_in_block left block after ends all order is none so_far =
-        sym (failing_behind ends (endings_of campaign image inputs after) none)
-        ∙ sym (ap (first_failing exit) (split campaign image inputs left block after ends order is)) ∙ so_far
+  pub none_yet : (all left : List SeedEnding) → left ≡ all → Unfailed all left 0
+  none_yet all left whole = record { done = []; order = sym whole; counting = refl; none = refl }
 
-    pub none_left : (left : List ℕ) (all : List SeedEnding) → left ≡ []
-        → first_failing exit (endings_of campaign image inputs left) ≡ first_failing exit all → first_failing exit all ≡ None
-    none_left left all none so_far = sym so_far ∙ ap (first_failing exit) (endings_none campaign image inputs left none)
-
-  abbrev no_failure : Finished
-  no_failure = record { status = status.Done; first_failure = None }
+  -- the seeds that a campaign says it ran
+  seeds_of : (form : Form) (n : ℕ) (first : Option SeedEnding) → (ended_at form exit n first).1.seeds ≡ n
+  seeds_of form n None = refl
+  seeds_of form n (Some end) = refl
 
   -- no run has failed
-  pub ended_without : (form : Form) (text : List ℕ) (first : Option SeedEnding) → text ≡ [] → first ≡ None → (text, no_failure) ≡ ended_at form exit first
-  ended_without form text first nothing none = ap (λ t. (t, no_failure)) nothing ∙ ap (ended_at form exit) (sym none)
+  pub ended_without : (form : Form) (text : List ℕ) (n : ℕ) (finished : Finished) → text ≡ [] → ([], finished) ≡ ended_at form exit n None
+      → (text, finished) ≡ ended_at form exit n None
+  ended_without form text n finished nothing is = ap (λ t. (t, finished)) nothing ∙ is
+
+  -- ---- a block is taken from the seeds that are left
+  module _ (all runs block left : List SeedEnding) (number number_now : ℕ) (split : runs ≡ block ++ left) (bigger : number_now ≡ number + length block)
+      (h : Unfailed all runs number) where
+    order_now : all ≡ (h.done ++ block) ++ left
+    order_now = h.order ∙ ap (λ rest. h.done ++ rest) split ∙ sym (append_assoc h.done block left)
+
+    number_of : number_now ≡ length (h.done ++ block)
+    number_of = bigger ∙ ap (λ n. n + length block) h.counting ∙ sym (length-append h.done block)
+
+    pub none_in_block : first_failing exit block ≡ None → Unfailed all left number_now
+    none_in_block none = record {
+      done = h.done ++ block;
+      order = order_now;
+      counting = number_of;
+      none = failing_behind h.done block h.none ∙ none;
+    }
+
+    -- one in it has failed: the runs as far as the end of the block, of which it is the first
+    pub record Failed (end : SeedEnding) : Type 0 where
+      pub done : List SeedEnding
+      pub order : all ≡ done ++ left
+      pub counting : number_now ≡ length done
+      pub found : first_failing exit done ≡ Some end
+
+    pub found_in_block : (end : SeedEnding) → first_failing exit block ≡ Some end → Failed end
+    found_in_block end is = record {
+      done = h.done ++ block;
+      order = order_now;
+      counting = number_of;
+      found = failing_behind h.done block h.none ∙ is;
+    }
+
+  -- ---- the end of a campaign
+  module _ (campaign : Campaign) (image : ImageValue) (inputs : List ℕ) where
+    module _ (form : Form) (text : List ℕ) (finished : Finished) (n : ℕ) (first : Option SeedEnding) (told : (text, finished) ≡ ended_at form exit n first)
+        (done left : List SeedEnding) (order : all_endings campaign image inputs ≡ done ++ left) (counting : n ≡ length done)
+        (found : first_failing exit done ≡ first) where
+      seeds : finished.seeds ≡ n
+      seeds = ap (λ (answer : List ℕ × Finished). answer.1.seeds) told ∙ seeds_of form n first
+
+      -- what is told is that of the first seeds
+      pub told_of_first : (text, finished) ≡ ended_at form exit finished.seeds (first_failing exit (first_endings finished.seeds campaign image inputs))
+      told_of_first =
+          told ∙ ap₂ (ended_at form exit) (sym seeds)
+          (sym found ∙ ap (first_failing exit) (first_runs campaign image inputs done left finished.seeds order (seeds ∙ counting)))
+
+      pub seeds_within : finished.seeds ≤ campaign.count
+      seeds_within = no_more campaign image inputs done left finished.seeds order (seeds ∙ counting)
+
+      -- if it is the first of all, so is its seed
+      first_told : first_failing exit (all_endings campaign image inputs) ≡ first
+          → finished.first_failure ≡ first_failure exit (all_endings campaign image inputs)
+      first_told is =
+          ap (λ (answer : List ℕ × Finished). answer.1.first_failure) told
+          ∙ ap (λ o. (ended_at form exit n o).1.first_failure) (sym is) ∙ same_seed form n (all_endings campaign image inputs)
+
+      pub first_of_failed : (end : SeedEnding) → first ≡ Some end
+          → finished.first_failure ≡ first_failure exit (all_endings campaign image inputs)
+      first_of_failed end some =
+          first_told (ap (first_failing exit) order ∙ failing_in_front done left end (found ∙ some) ∙ sym some)
+
+      pub first_of_none : first ≡ None → left ≡ []
+          → finished.first_failure ≡ first_failure exit (all_endings campaign image inputs)
+      first_of_none none nothing_left =
+          first_told (ap (first_failing exit) (order ∙ ap (λ rest. done ++ rest) nothing_left ∙ append-nil done) ∙ found)
+
+-- the number of seeds so far fits, as that of all does
+pub number_fits : (exit : Exit) (campaign : Campaign) (image : ImageValue) (inputs : List ℕ) (runs block left : List SeedEnding) (number count : ℕ)
+    → Unfailed exit (all_endings campaign image inputs) runs number → runs ≡ block ++ left → length block ≡ count
+    → campaign.count < 2 ^ 64 → number + count < 2 ^ 64
+number_fits exit campaign image inputs runs block left number count h split size few =
+    let all : campaign.count ≡ length h.done + (length block + length left)
+    = sym (as_many campaign image inputs) ∙ ap length (h.order ∙ ap (λ rest. h.done ++ rest) split) ∙ length-append h.done (block ++ left)
+    ∙ ap (λ n. length h.done + n) (length-append block left) in
+    let done = h.counting in
+    omega (arith, all, done, size, few)

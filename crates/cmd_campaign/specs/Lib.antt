@@ -2,5 +2,6 @@ pub mod Lines
 pub mod Summary
 pub mod Status
 pub mod Answers
+pub mod First
 pub mod Kept
 pub mod Until

@@ -1,5 +1,5 @@
 -- The status of a campaign, and the first of its runs that has failed.
-use Rattle.std.specs.Prelude.{ℕ, Bool, List, [], ◌∷◌, Option, Some, None, is_some, if◌then◌else◌}
+use Rattle.std.specs.Prelude.{ℕ, Bool, List, [], ◌∷◌, length, Option, Some, None, is_some, if◌then◌else◌}
 use Rattle.std.specs.List.{list_any}
 use Rattle.byte_io.specs.declared.status.Status.{Status}
 use Rattle.outcome.specs.Expect.{status_by}
@@ -40,13 +40,18 @@ campaign_status exit ends = status_by (any_breaks ends) (any_faults exit ends)
 
 -- the end of a campaign of these runs
 abbrev pub campaign_end : Exit → List SeedEnding → Finished
-campaign_end exit ends = record { status = campaign_status exit ends; first_failure = first_failure exit ends }
+campaign_end exit ends = record {
+  status = campaign_status exit ends;
+  first_failure = first_failure exit ends;
+  seeds = length ends;
+}
 
 -- the end of runs of which it isn't decided whether they hang
 abbrev pub finished_of : Exit → List SeedEnding → Finished
 finished_of exit ends = record {
   status = status_by (any_breaks ends) (is_some (first_failure exit ends));
   first_failure = first_failure exit ends;
+  seeds = length ends;
 }
 
 -- how a command ends after these runs: by a hang, if runs have failed by hangs alone

@@ -21,16 +21,17 @@ abbrev pub first_failing : Exit → List SeedEnding → Option SeedEnding
 first_failing exit [] = None
 first_failing exit (end ∷ ends) = if has_failed exit end then Some end else first_failing exit ends
 
--- what is written of it: its line, or nothing; and the end of the campaign: its status and seed, or 0
-abbrev pub ended_at : Form → Exit → Option SeedEnding → List ℕ × Finished
-ended_at form exit None = ([], record { status = status.Done; first_failure = None })
-ended_at form exit (Some end) =
-    (end_entry form end, record { status = ending_status exit end.ending; first_failure = Some end.seed })
+-- what is written of it: its line, or nothing; and the end of the campaign, of which so many seeds
+-- were run: its status and seed, or 0
+abbrev pub ended_at : Form → Exit → ℕ → Option SeedEnding → List ℕ × Finished
+ended_at form exit seeds None = ([], record { status = status.Done; first_failure = None; seeds = seeds })
+ended_at form exit seeds (Some end) =
+    (end_entry form end, record { status = ending_status exit end.ending; first_failure = Some end.seed; seeds = seeds })
 
 -- the answer over an ELF file: the number of inputs is checked before the first run
 unfoldable pub until_answer : Campaign → List ℕ → List ℕ → Result (List ℕ × Finished) CommandFault
 until_answer campaign inputs bytes = after_program (length inputs)
-    (λ image. Ok (ended_at campaign.form campaign.expect.exit
+    (λ image. Ok (ended_at campaign.form campaign.expect.exit campaign.count
     (first_failing campaign.expect.exit (all_endings campaign image inputs))))
     (program_of form.Elf bytes)
 

@@ -48,14 +48,16 @@ impl Findings {
         };
     }
 
-    /// The end of a campaign of these runs.
-    pub(crate) fn finished(self) -> Finished
+    /// The end of a campaign of these runs, which are those of so many seeds.
+    pub(crate) fn finished(self, seeds: u64) -> Finished
         ensures status { result.status ≡ status_by self.is_broken self.is_faulted }
         ensures first { result.first_failure ≡ self.first_failure }
+        ensures seeds { result.seeds ≡ seeds }
     {
         Finished {
             status: status_by(self.is_broken, self.is_faulted),
             first_failure: self.first_failure,
+            seeds,
         }
     }
 }

@@ -59,8 +59,9 @@ pub fn no_run_fails_before_the_first()
         → first_failing exit ends ≡ Some end → IsFirstFailing exit ends end }
     ensures none { (exit : Exit) (ends : List SeedEnding)
         → first_failing exit ends ≡ None → NoneFailed exit ends }
-    ensures seed { (form : Form) (exit : Exit) (ends : List SeedEnding)
-        → (ended_at form exit (first_failing exit ends)).1.first_failure ≡ first_failure exit ends }
+    ensures seed { (form : Form) (exit : Exit) (seeds : ℕ) (ends : List SeedEnding)
+        → (ended_at form exit seeds (first_failing exit ends)).1.first_failure
+        ≡ first_failure exit ends }
 {}
 
 /// Where it isn't decided whether runs hang, no run has failed by a hang: the status is 4 if a rule

@@ -9,6 +9,7 @@ pub use laws::{
     all_seeds_are_counted, campaign_of_one_run_has_its_status, failures_of_an_object_are_none,
     lines_of_an_object_say_kept, no_run_fails_before_the_first, unasked_hangs_are_no_failure,
 };
+pub use limit::{Limit, Unlimited};
 pub use lines::push_lines;
 pub use outcome::{Exit, Expect};
 pub use record::{count_ends_of, record_block};
@@ -19,6 +20,7 @@ pub use until::until_failure_engine;
 mod engine;
 mod findings;
 mod laws;
+mod limit;
 mod lines;
 mod record;
 mod rows;

@@ -126,6 +126,7 @@ pub(crate) const COMMANDS: [Row; 14] = [
             "--never-both",
             "--always",
             "--jobs",
+            "--seconds",
             "--preemptions",
             "--choices-of",
             "--json",

@@ -8,7 +8,7 @@ ghost use Rattle.program_open.specs.CommandFaults.{status_of_fault};
 use crate::reply::{Reply, answered};
 use crate::running::refused_by;
 use byte_io::{MemorySink, MemorySource, Unheard};
-use cmd_campaign::{Alone, Campaign, campaign_engine};
+use cmd_campaign::{Alone, Campaign, Unlimited, campaign_engine};
 use std::alloc::Allocator;
 
 /// `campaign`: the report of the runs of an ELF file under the schedules of a range of seeds, which
@@ -32,6 +32,7 @@ pub fn campaign_call<A: Allocator + Copy>(
         alloc,
         inputs,
         campaign,
+        &mut Unlimited,
         &mut program,
         &mut sink,
         &mut Unheard,

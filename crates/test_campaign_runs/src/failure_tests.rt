@@ -4,7 +4,7 @@ use crate::plain_runs::plain_ending;
 use crate::plans::{Order, Plan, Program, REPORTS, answered, campaign_of, program_of};
 use byte_io::{Failing, FullSink, MemorySource, Status, Unheard};
 use campaign_runs::Report;
-use cmd_campaign::{Finished, Jobs, OnThreads, campaign_engine, until_failure_engine};
+use cmd_campaign::{Finished, Jobs, OnThreads, Unlimited, campaign_engine, until_failure_engine};
 use image::ElfFault;
 use object_library::Kind;
 use outcome::Exit;
@@ -124,7 +124,12 @@ fn has_bad_lines(rt: &(impl Threads + Sync), alloc: Global, row: &Bad) -> Option
     let (_told, lines) = answered(rt, alloc, program, row.plan, Report::Lines)?;
     let (ending, sink) = answered(rt, alloc, program, row.plan, Report::Failures)?;
     let finished = ending.ok()?;
-    let are_ended = end_all_so(rt, alloc, program, beginning_of(row.plan), finished)?;
+    let beginning = beginning_of(row.plan);
+    let begun = Finished {
+        seeds: beginning.count,
+        ..finished
+    };
+    let are_ended = end_all_so(rt, alloc, program, beginning, begun)?;
     let are_lines = are_bad_lines(alloc, row, lines.bytes(), sink.bytes())?;
     let is_first = begin_with(alloc, sink.bytes(), finished.first_failure)?;
     Some(finished.status == row.status && are_ended && are_lines && is_first)
@@ -164,11 +169,16 @@ fn stops_at_the_first(rt: &(impl Threads + Sync), alloc: Global, row: &Bad) -> O
         alloc,
         row.inputs,
         campaign,
+        &mut Unlimited,
         &mut source,
         &mut Unheard,
     )
     .ok()?;
-    Some(ending == Ok(finished) && text.as_bytes() == first_line(sink.bytes()))
+    let whole = ending.ok()?;
+    Some(
+        (finished.status, finished.first_failure) == (whole.status, whole.first_failure)
+            && text.as_bytes() == first_line(sink.bytes()),
+    )
 }
 
 #[test]
@@ -207,6 +217,7 @@ fn is_first_hanging_told(rt: &(impl Threads + Sync), alloc: Global) -> Option<bo
     let finished = Finished {
         status: Status::Faulted,
         first_failure: Some(seed),
+        seeds: MUST.count,
     };
     end_all_so(rt, alloc, program_of(&file, &[7, 9]), MUST, finished)
 }
@@ -298,6 +309,7 @@ fn is_refused_until(rt: &(impl Threads + Sync), alloc: Global, row: &Refused) ->
         alloc,
         row.inputs,
         campaign,
+        &mut Unlimited,
         &mut source,
         &mut Unheard,
     );
@@ -331,6 +343,7 @@ fn ended_in_vain(
         alloc,
         &[7, 9, 5],
         campaign,
+        &mut Unlimited,
         &mut source,
         &mut FullSink::new(),
         &mut Unheard,

@@ -2,7 +2,7 @@
 //! failure; a seed's run with each request for memory refused in turn.
 use byte_io::{MemorySink, MemorySource, Status, Unheard};
 use campaign_runs::{Alone, Campaign, Form, Hangs, Properties, Report, Words, run_seed};
-use cmd_campaign::{Finished, RunStatus, campaign_engine, until_failure_engine};
+use cmd_campaign::{Finished, RunStatus, Unlimited, campaign_engine, until_failure_engine};
 use machine::{Inputs, Machine};
 use mem_flat::FlatStore;
 use outcome::{Exit, Expect};
@@ -151,6 +151,7 @@ fn is_reported(alloc: Global, row: &Row) -> Result<bool, AllocError> {
             count: 2,
             ..row.campaign()
         },
+        &mut Unlimited,
         &mut MemorySource::new(&file),
         &mut sink,
         &mut Unheard,
@@ -177,6 +178,7 @@ fn first_failing(alloc: Global, row: &Row) -> Option<(String, Finished)> {
             count: 2,
             ..row.campaign()
         },
+        &mut Unlimited,
         &mut MemorySource::new(&file),
         &mut Unheard,
     )

@@ -12,6 +12,9 @@ mod hang_tests;
 // Harts that say `pause`.
 #[cfg(test)]
 mod pause_tests;
+// Campaigns that a limit ends.
+#[cfg(test)]
+mod limit_tests;
 // What the tests share.
 #[cfg(test)]
 mod plain_runs;

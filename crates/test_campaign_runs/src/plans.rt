@@ -3,7 +3,7 @@ ghost use Rattle.std.specs.Prelude.{◌+◌, ◌≤◌, ◌^◌, IfSome};
 
 use byte_io::{Failing, MemorySink, MemorySource, Unheard};
 use campaign_runs::{Campaign, Form, Hangs, Properties, Report, Words};
-use cmd_campaign::{Finished, Jobs, OnThreads, campaign_engine};
+use cmd_campaign::{Finished, Jobs, Limit, OnThreads, Unlimited, campaign_engine};
 use object_library::Kind;
 use outcome::{Exit, Expect};
 use program_open::CommandFault;
@@ -129,6 +129,18 @@ pub(crate) fn answered(
     plan: Plan,
     report: Report,
 ) -> Option<Answer> {
+    answered_within(rt, alloc, program, plan, report, &mut Unlimited)
+}
+
+/// The same, until the limit is over.
+pub(crate) fn answered_within(
+    rt: &(impl Threads + Sync),
+    alloc: Global,
+    program: Program,
+    plan: Plan,
+    report: Report,
+    limit: &mut impl Limit,
+) -> Option<Answer> {
     let campaign = campaign_of(plan, report)?;
     let mut source = Failing::new(MemorySource::new(program.file), program.passed);
     let mut sink = MemorySink::new(alloc);
@@ -140,6 +152,7 @@ pub(crate) fn answered(
         alloc,
         program.inputs,
         campaign,
+        limit,
         &mut source,
         &mut sink,
         &mut Unheard,

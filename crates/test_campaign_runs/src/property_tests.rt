@@ -2,7 +2,7 @@
 //! failure.
 use byte_io::{MemorySink, MemorySource, Status, Unheard};
 use campaign_runs::{Alone, Campaign, Form, Hangs, Properties, Report, Words};
-use cmd_campaign::{Finished, campaign_engine, until_failure_engine};
+use cmd_campaign::{Finished, Unlimited, campaign_engine, until_failure_engine};
 use object_library::Kind;
 use outcome::{Exit, Expect};
 use program_open::CommandFault;
@@ -115,6 +115,7 @@ fn is_reported(alloc: Global, row: &Row) -> Result<bool, AllocError> {
             count: 2,
             ..row.campaign()
         },
+        &mut Unlimited,
         &mut MemorySource::new(&file),
         &mut sink,
         &mut Unheard,
@@ -141,6 +142,7 @@ fn first_failing(alloc: Global, row: &Row) -> Option<String> {
             count: 2,
             ..row.campaign()
         },
+        &mut Unlimited,
         &mut MemorySource::new(&file),
         &mut Unheard,
     );

@@ -99,6 +99,7 @@ fn is_worked(rt: &(impl Threads + Sync), alloc: Global, row: &Worked) -> Option<
     let finished = Finished {
         status: row.status,
         first_failure: row.first_failure,
+        seeds: row.plan.count,
     };
     Some(ending == Ok(finished) && sink.bytes() == row.text.as_bytes())
 }
@@ -203,6 +204,7 @@ fn has_histogram(rt: &(impl Threads + Sync), alloc: Global, row: &Histogram) -> 
     let finished = Finished {
         status: Status::Done,
         first_failure: None,
+        seeds: row.plan.count,
     };
     Some(ending == Ok(finished) && sink.bytes() == wanted.as_bytes())
 }

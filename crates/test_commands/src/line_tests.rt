@@ -140,6 +140,8 @@ static LINES: [(&str, &str); 65] = [
         "campaign FILE=p inputs=7,9 first=1 count=2 steps=3 word=a,b"),
     ("rvcons campaign p --inputs 7,9 --first 1 --count 2 --steps 3 --jobs 4",
         "campaign FILE=p inputs=7,9 first=1 count=2 steps=3 jobs=4"),
+    ("rvcons campaign p --inputs 7,9 --first 1 --count 2 --steps 3 --seconds 60",
+        "campaign FILE=p inputs=7,9 first=1 count=2 steps=3 seconds=60"),
     ("rvcons campaign p --inputs 7,9 --first 1 --count 2 --steps 3 --json",
         "campaign FILE=p inputs=7,9 first=1 count=2 steps=3 json=yes"),
     ("rvcons campaign p --inputs 7,9 --first 1 --count 2 --steps 3 --within w",

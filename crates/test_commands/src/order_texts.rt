@@ -177,6 +177,7 @@ fn campaign_text(alloc: Global, order: &CampaignOrder) -> Result<String, AllocEr
         ("never-both", order.never_both),
         ("always", order.always),
         ("jobs", order.jobs),
+        ("seconds", order.seconds),
         ("preemptions", order.preemptions),
         ("choices-of", order.choices_of),
         ("json", flag(order.json)),

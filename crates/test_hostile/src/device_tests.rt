@@ -6,7 +6,8 @@ ghost use Rattle.std.specs.Prelude.{◌≡◌};
 use byte_io::{Failing, FullSink, MemorySink, MemorySource, Status, Unheard};
 use cmd_asm::{AssemblyFault, assembled_file, listing_engine, write_file};
 use cmd_campaign::{
-    Campaign, Form, Hangs, Jobs, OnThreads, Properties, Report, Words, campaign_engine,
+    Campaign, Form, Hangs, Jobs, OnThreads, Properties, Report, Unlimited, Words,
+    campaign_engine,
 };
 use cmd_debug::{DebugEngineFault, debug_engine};
 use cmd_replay::replay_engine;
@@ -205,6 +206,7 @@ fn campaign<R: Threads + Sync>(rt: &R, alloc: Global, failure: Failure) -> Outco
         alloc,
         &[7],
         three_seeds(),
+        &mut Unlimited,
         &mut program,
         &mut sink,
         &mut Unheard,
@@ -369,6 +371,7 @@ fn full_campaign<R: Threads + Sync>(rt: &R, alloc: Global) -> Result<Status, Com
         alloc,
         &[7],
         three_seeds(),
+        &mut Unlimited,
         &mut program,
         &mut FullSink::new(),
         &mut Unheard,

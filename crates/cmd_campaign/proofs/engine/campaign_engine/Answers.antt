@@ -1,6 +1,5 @@
 use Rattle.std.proofs.Common.{◌<◌}
-use Rattle.program_open.specs.Answers.{BeginsToPrint}
-use Rattle.cmd_campaign.proofs.AnswerLemmas.{done_known, first_known, halted_known, image_known, refused_known, unread_known, unread_still}
+use Rattle.cmd_campaign.proofs.AnswerLemmas.{begun_known, done_known, first_known, halted_known, refused_known, unread_known, unread_still}
 use Rattle.cmd_campaign.proofs.KeptLemmas.{certified_known}
 use Rattle.cmd_campaign.proofs.engine.campaign_engine.Goals as goal
 
@@ -28,12 +27,11 @@ returns-clause-read g c =
 
 pub returns-clause-begun : goal.returns-clause-begun
 returns-clause-begun g c = λ e.
-    image_known c.args.campaign c.args.inputs.now _ _ c.in-Ok.ensures.ok
-    (λ a. BeginsToPrint a (g.K.Sink.held c.args.sink.now) (g.K.Sink.held c.write_campaign.new.sink)) (c.write_campaign.ensures.begun e)
+    begun_known c.args.campaign c.args.inputs.now _ _ c.in-Ok.ensures.ok _ _ _ (c.write_campaign.ensures.begun e)
 
 pub returns-clause-halted : goal.returns-clause-halted
 returns-clause-halted g c = λ e.
-    halted_known c.args.campaign c.args.inputs.now _ _ c.in-Ok.ensures.ok _ _ _ (c.write_campaign.ensures.halted e)
+    halted_known c.args.campaign c.args.inputs.now _ _ c.in-Ok.ensures.ok _ _ _ _ (c.write_campaign.ensures.halted e)
 
 pub returns-clause-certified : goal.returns-clause-certified
 returns-clause-certified g c =

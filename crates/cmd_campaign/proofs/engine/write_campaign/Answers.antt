@@ -1,6 +1,6 @@
 use Rattle.std.proofs.Common.{◌<◌, Err, inr, ap, sym, subst, ◌∙◌}
 use Rattle.program_open.specs.CommandFaults.{IfNames}
-use Rattle.cmd_campaign.proofs.AnswerLemmas.{answer_of_refused, answer_of_runs, begins_answer, done_answer, halted_unread, start_unread}
+use Rattle.cmd_campaign.proofs.AnswerLemmas.{answer_of_refused, begins_answer, done_answer, halted_unread, start_unread}
 use Rattle.cmd_campaign.proofs.engine.write_campaign.Goals as goal
 
 pub returns-in-Err-clause-refused : goal.returns-in-Err-clause-refused
@@ -20,15 +20,15 @@ returns-clause-read g c =
 
 pub returns-clause-done : goal.returns-clause-done
 returns-clause-done g c =
-    done_answer _ _ _ _ _ _ (answer_of_runs c.args.campaign c.args.inputs.now c.args.image.now c.in-Ok.ensures.same.1)
+    done_answer c.args.campaign c.args.inputs.now c.args.image.now c.in-Ok.ensures.same.1 _ _ _
     (rw c.in-Ok.ensures.same.0 at c.write_report.ensures.written) (rw c.in-Ok.ensures.same.0 at c.write_report.ensures.finished)
 
 pub returns-clause-begun : goal.returns-clause-begun
 returns-clause-begun g c = λ e.
-    begins_answer _ _ _ _ _ _ _ (answer_of_runs c.args.campaign c.args.inputs.now c.args.image.now c.in-Ok.ensures.same.1)
+    begins_answer c.args.campaign c.args.inputs.now c.args.image.now c.in-Ok.ensures.same.1 _ _ _ _ _
     (rw c.in-Ok.ensures.same.0 at c.write_report.ensures.begun) e
 
 pub returns-clause-halted : goal.returns-clause-halted
 returns-clause-halted g c = λ e.
-    inr (begins_answer _ _ _ _ _ _ _ (answer_of_runs c.args.campaign c.args.inputs.now c.args.image.now c.in-Ok.ensures.same.1)
+    inr (begins_answer c.args.campaign c.args.inputs.now c.args.image.now c.in-Ok.ensures.same.1 _ _ _ _ _
     (rw c.in-Ok.ensures.same.0 at c.write_report.ensures.begun) e)

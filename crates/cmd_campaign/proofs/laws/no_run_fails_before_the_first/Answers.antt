@@ -8,4 +8,4 @@ pub returns-clause-none : goal.returns-clause-none
 returns-clause-none c = λ exit ends none. none_failed exit ends none
 
 pub returns-clause-seed : goal.returns-clause-seed
-returns-clause-seed c = λ form exit ends. same_seed exit form ends
+returns-clause-seed c = λ form exit seeds ends. same_seed exit form seeds ends
