@@ -4,7 +4,8 @@ ghost use Rattle.std.specs.Prelude.{◌+◌, ◌<◌, ◌^◌};
 
 use byte_io::{MemorySource, Status, Unheard};
 use cmd_bounded::{
-    BoundedCampaign, Exit, Expect, Finished, Form, Report, bounded_choices_engine, bounded_engine,
+    BoundedCampaign, Exit, Expect, Finished, Form, Properties, Report, bounded_choices_engine,
+    bounded_engine, bounded_until_engine,
 };
 use object_library::Kind;
 use program_open::CommandFault;
@@ -44,6 +45,7 @@ fn two_of(report: Report, form: Form) -> BoundedCampaign
             rule: Some(Kind::Swap),
             exit: Exit::Must,
         },
+        properties: Properties::NONE,
         report,
         form,
     }
