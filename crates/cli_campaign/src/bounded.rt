@@ -9,7 +9,8 @@ use cli_orders::CampaignOrder;
 use cli_report::{Audience, RunFiles, WIPE, bad_line, inputs_said, open_one, say_why, wipe_line};
 use cli_values::{BOUNDS, read_bounds, read_report};
 use cmd_bounded::{
-    BoundedCampaign, Properties, Report, bounded_choices_engine, bounded_engine, bounded_until_engine,
+    BoundedCampaign, Properties, Report, bounded_choices_engine, bounded_engine,
+    bounded_until_engine,
 };
 use program_open::{CommandFault, write_text};
 use std::io;
@@ -183,15 +184,7 @@ fn print_bounded<R: Files + AllocGlobal + Print + Eprint, P: Source>(
     let answer = if order.choices_of.is_some() {
         print_choices(rt, inputs, campaign, program)
     } else {
-        print_report(
-            rt,
-            audience,
-            order,
-            preemptions,
-            inputs,
-            campaign,
-            program,
-        )
+        print_report(rt, audience, order, preemptions, inputs, campaign, program)
     };
     match answer {
         Ok(status) => Ok(status),

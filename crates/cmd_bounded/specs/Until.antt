@@ -2,6 +2,7 @@
 use Rattle.std.specs.Prelude.{◌≡◌, ℕ, suc, List, [], ◌∷◌, ◌++◌, take, drop, length, Option, Some, None, if◌then◌else◌}
 use Rattle.std.specs.declared.result.Result.{Result}
 use Rattle.std.specs.declared.result.Result.TheVariants.{Ok}
+use Rattle.byte_io.specs.declared.status.Status.TheVariants as status
 use Rattle.machine.specs.Start.{started}
 use Rattle.machine.specs.World.{World}
 use Rattle.outcome.specs.declared.expect.Exit.{Exit}
@@ -13,7 +14,8 @@ use Rattle.campaign_bounded.specs.Walk.{Led}
 use Rattle.campaign_runs.specs.Runs.{SeedEnding, seed_ending}
 use Rattle.campaign_runs.specs.declared.seed_run.SeedEnd.{SeedEnd}
 use Rattle.cmd_campaign.specs.Lines.{has_failed}
-use Rattle.cmd_campaign.specs.Until.{ended_at, first_failing}
+use Rattle.cmd_campaign.specs.Status.{ending_status}
+use Rattle.cmd_campaign.specs.Until.{first_failing}
 use Rattle.cmd_campaign.specs.declared.engine.Finished.{Finished}
 use Rattle.cmd_form.specs.declared.form.Form.{Form}
 use Rattle.cmd_bounded.specs.Lines.{covered_line, numbered_entry}
@@ -30,12 +32,17 @@ abbrev pub found_entry : Form → Option SeedEnding → List ℕ
 found_entry form None = []
 found_entry form (Some end) = numbered_entry form end
 
+-- the status and the number of a run, if there is one
+abbrev pub found_end : Exit → Option SeedEnding → Finished
+found_end exit None = record { status = status.Done; first_failure = None }
+found_end exit (Some end) = record { status = ending_status exit end.ending; first_failure = Some end.seed }
+
 -- the line of the first run that has failed, what is covered up to it, and its status and number; or
 -- that all are covered, and that no run has failed
 abbrev pub found_report : BoundedCampaign → ℕ → Option SeedEnding → List Led → List ℕ × Finished
 found_report campaign count found left = (
   found_entry campaign.form found ++ covered_line campaign count left,
-  (ended_at campaign.form campaign.expect.exit found).1,
+  found_end campaign.expect.exit found,
 )
 
 -- that of the runs from a program's start over a range of the schedules

@@ -5,9 +5,8 @@ ghost use Rattle.machine.specs.Machine.{world};
 ghost use Rattle.machine.specs.Start.{started};
 ghost use Rattle.campaign_bounded.specs.Walk.{schedules_left};
 ghost use Rattle.program_open.specs.CommandFaults.{IfNames, IsRefusal};
-ghost use Rattle.cmd_campaign.specs.Until.{ended_at};
 ghost use Rattle.cmd_bounded.specs.Runs.{every_schedule};
-ghost use Rattle.cmd_bounded.specs.Until.{bounded_until, found_ending, found_entry, until_range, FindsFirst};
+ghost use Rattle.cmd_bounded.specs.Until.{bounded_until, found_end, found_ending, found_entry, until_range, FindsFirst};
 
 use crate::bounded::BoundedCampaign;
 use crate::covered::push_covered;
@@ -86,10 +85,9 @@ fn push_found<A: Allocator>(
 }
 
 // The status and the number of the first run that has failed, if one has.
-fn finished_at<A: Allocator>(form: Form, expect: Expect, found: &Option<SeedEnd<A>>) -> Finished
-    ensures { result ≡ (ended_at form expect.exit (found_ending found.now)).1 }
+fn finished_at<A: Allocator>(expect: Expect, found: &Option<SeedEnd<A>>) -> Finished
+    ensures { result ≡ found_end expect.exit (found_ending found.now) }
 {
-    let _ = form;
     match found {
         None => Finished {
             status: Status::Done,
@@ -103,6 +101,7 @@ fn finished_at<A: Allocator>(form: Form, expect: Expect, found: &Option<SeedEnd<
 }
 
 // The report of the runs over a range of a walk's schedules up to the first that has failed.
+#[tactic(auto, unfolding(crate::specs::Until::until_range))]
 fn report_until<S: FromImage<A>, A: Allocator + Copy>(
     alloc: A,
     walk: &mut Schedules<S, A>,
@@ -119,7 +118,7 @@ fn report_until<S: FromImage<A>, A: Allocator + Copy>(
     let mut text = String::new(alloc);
     push_found(&mut text, campaign.form, &found.failing)?;
     push_covered(alloc, &mut text, walk, campaign, found.count)?;
-    let finished = finished_at(campaign.form, campaign.expect, &found.failing);
+    let finished = finished_at(campaign.expect, &found.failing);
     Ok((text, finished))
 }
 
