@@ -71,9 +71,9 @@ impl<S: Store, A: Allocator> Schedule<S, A> {
     }
 }
 
-// Takes a step. That of a hart that doesn't exist changes nothing.
+/// Takes a step. That of a hart that doesn't exist changes nothing. The only error is out of memory.
 #[tactic(auto, using(crate::proofs::FairLemmas::step_of_nobody))]
-fn take_step<S: Store, A: Allocator>(
+pub(crate) fn take_step<S: Store, A: Allocator>(
     machine: &mut Machine<S, A>,
     choice: Choice,
 ) -> Result<(), AllocError>

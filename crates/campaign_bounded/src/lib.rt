@@ -9,6 +9,7 @@ pub use schedule::Schedule;
 pub use schedules::Schedules;
 
 mod fair;
+mod judging;
 mod laws;
 mod node;
 mod schedule;

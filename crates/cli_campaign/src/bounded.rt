@@ -3,15 +3,23 @@
 ghost use Rattle.std.specs.Prelude.{◌+◌, ◌-◌, ◌<◌, ◌^◌, IfOk};
 
 use crate::campaign::{form_of, read_expect, why_no_report};
-use byte_io::{Progress, Source, Status};
+use crate::properties::{PropertyTexts, read_properties, show_properties};
+use byte_io::{MemorySource, Progress, Source, Status};
 use cli_orders::CampaignOrder;
 use cli_report::{
     Audience, RunFiles, WIPE, bad_line, inputs_said, open_one, print_text, say_why, wipe_line,
 };
 use cli_values::{BOUNDS, read_bounds, read_report};
-use cmd_bounded::{BoundedCampaign, Report, bounded_choices_engine, bounded_engine};
+use cmd_bounded::{
+    BoundedCampaign, Properties, Report, bounded_choices_engine, bounded_engine,
+    bounded_until_engine,
+};
 use program_open::CommandFault;
 use std::rt::Files;
+
+// Why a report up to the first failure has no counts.
+pub(crate) const UNTIL_OR_SUMMARY: &str =
+    "--until-failure prints one line, and --summary none: write one of the two";
 
 // How many schedules are run before a person is told again.
 const SCHEDULES_AT_ONCE: u64 = 1 << 10;
@@ -48,12 +56,6 @@ fn refuse_others<R: Print + Eprint>(rt: &R, order: &CampaignOrder) -> Result<(),
             "--preemptions draws no choices and uses one thread: --schedule, --within, --refusals and --jobs don't go with it",
         ));
     }
-    if order.until_failure || order.has_properties() {
-        return Err(bad_line(
-            rt,
-            "--until-failure, --never-both and --always don't go with --preemptions",
-        ));
-    }
     if order.choices_of.is_some() && (order.first.is_some() || order.count.is_some()) {
         return Err(bad_line(
             rt,
@@ -63,7 +65,7 @@ fn refuse_others<R: Print + Eprint>(rt: &R, order: &CampaignOrder) -> Result<(),
     Ok(())
 }
 
-// The runs that an order asks for, or the status of an invalid line.
+// The runs that an order asks for, yet without its properties, or the status of an invalid line.
 fn read_bounded<R: Print + Eprint>(
     rt: &R,
     order: &CampaignOrder,
@@ -87,6 +89,9 @@ fn read_bounded<R: Print + Eprint>(
     ) else {
         return Err(bad_line(rt, why_no_report(order)));
     };
+    if order.until_failure && order.summary {
+        return Err(bad_line(rt, UNTIL_OR_SUMMARY));
+    }
     Ok(BoundedCampaign {
         first: numbers.first,
         // No schedule has the number 2^64 - 1.
@@ -94,6 +99,7 @@ fn read_bounded<R: Print + Eprint>(
         steps: numbers.steps,
         preemptions: numbers.preemptions,
         expect,
+        properties: Properties::NONE,
         report,
         form: form_of(order),
     })
@@ -111,10 +117,8 @@ pub(crate) fn obey_bounded<R: Files + AllocGlobal + Print + Eprint>(
     let inputs = inputs_said(rt, order.inputs)?;
     let campaign = read_bounded(rt, order, preemptions)?;
     let mut program = open_one(rt, audience, order.file)?;
-    let answer = if order.choices_of.is_some() {
-        print_choices(rt, &inputs, campaign, &mut program)
-    } else {
-        print_report(
+    if order.has_properties() {
+        return print_judged(
             rt,
             audience,
             order,
@@ -122,7 +126,66 @@ pub(crate) fn obey_bounded<R: Files + AllocGlobal + Print + Eprint>(
             &inputs,
             campaign,
             &mut program,
-        )
+        );
+    }
+    print_bounded(
+        rt,
+        audience,
+        order,
+        preemptions,
+        &inputs,
+        campaign,
+        &mut program,
+    )
+}
+
+// Reads the program, since the order's properties name its symbols, and prints what is asked of runs
+// in which they are judged.
+fn print_judged<R: Files + AllocGlobal + Print + Eprint, P: Source>(
+    rt: &R,
+    audience: Audience,
+    order: &CampaignOrder,
+    preemptions: &str,
+    inputs: &[u32],
+    campaign: BoundedCampaign,
+    program: &mut P,
+) -> Result<Status, Status>
+    requires fits { campaign.first + campaign.count < 2 ^ 64 }
+    requires program_counts { P.failures program.old < 2 ^ 64 - 1 }
+{
+    let texts = PropertyTexts::of_campaign(order);
+    let (bytes, properties) = read_properties(rt, audience, order.file, texts, inputs, program)?;
+    let mut campaign = campaign;
+    campaign.properties = properties;
+    let mut source = MemorySource::new(&bytes);
+    print_bounded(
+        rt,
+        audience,
+        order,
+        preemptions,
+        inputs,
+        campaign,
+        &mut source,
+    )
+}
+
+// Prints the choices of a schedule, or the report of the runs.
+fn print_bounded<R: Files + AllocGlobal + Print + Eprint, P: Source>(
+    rt: &R,
+    audience: Audience,
+    order: &CampaignOrder,
+    preemptions: &str,
+    inputs: &[u32],
+    campaign: BoundedCampaign,
+    program: &mut P,
+) -> Result<Status, Status>
+    requires fits { campaign.first + campaign.count < 2 ^ 64 }
+    requires program_counts { P.failures program.old < 2 ^ 64 - 1 }
+{
+    let answer = if order.choices_of.is_some() {
+        print_choices(rt, inputs, campaign, program)
+    } else {
+        print_report(rt, audience, order, preemptions, inputs, campaign, program)
     };
     match answer {
         Ok(status) => Ok(status),
@@ -167,7 +230,11 @@ fn print_report<R: AllocGlobal + Print + Eprint, P: Source>(
         audience,
         is_shown: false,
     };
-    let answer = bounded_engine(rt.alloc(), inputs, campaign, program, &mut line);
+    let answer = if order.until_failure {
+        bounded_until_engine(rt.alloc(), inputs, campaign, program, &mut line)
+    } else {
+        bounded_engine(rt.alloc(), inputs, campaign, program, &mut line)
+    };
     if line.is_shown {
         wipe_line(rt, audience);
     }
@@ -194,5 +261,11 @@ fn show_commands<R: Eprint>(
          rvcons campaign {file} --inputs {inputs} --preemptions {preemptions} --steps {steps} --choices-of {number} >failing.choices\n    \
          rvcons debug {file} --inputs {inputs} --choices failing.choices"
     )
-    .ok()
+    .ok()?;
+    if order.has_properties() {
+        eprint!(rt; "    rvcons run {file} --inputs {inputs} --choices failing.choices").ok()?;
+        show_properties(rt, order)?;
+        eprint!(rt; "\n").ok()?;
+    }
+    Some(())
 }

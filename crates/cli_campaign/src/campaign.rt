@@ -2,7 +2,7 @@
 
 ghost use Rattle.std.specs.Prelude.{◌+◌, ◌-◌, ◌<◌, ◌≤◌, ◌^◌, IfOk, IfSome};
 
-use crate::bounded::obey_bounded;
+use crate::bounded::{UNTIL_OR_SUMMARY, obey_bounded};
 use crate::exiting::{exit_of, hangs_said};
 use crate::properties::{PropertyTexts, read_properties, show_properties};
 use crate::seconds::{Seconds, say_seeds, seconds_said};
@@ -114,10 +114,7 @@ fn read_campaign<R: Print + Eprint>(
         return Err(bad_line(rt, why_no_report(order)));
     };
     if order.until_failure && order.summary {
-        return Err(bad_line(
-            rt,
-            "--until-failure prints one line, and --summary none: write one of the two",
-        ));
+        return Err(bad_line(rt, UNTIL_OR_SUMMARY));
     }
     let draw = match read_draw(order.draw, order.refusals, order.within) {
         Ok(draw) => draw,

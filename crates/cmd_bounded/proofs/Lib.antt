@@ -2,3 +2,4 @@ pub mod RangeLemmas
 pub mod RowLemmas
 pub mod ReportLemmas
 pub mod RunLemmas
+pub mod UntilLemmas

@@ -1,5 +1,6 @@
 -- The runs over a range of schedules, one by one.
 use Rattle.std.proofs.Common.{◌≡◌, ℕ, zero, suc, ◌+◌, ◌-◌, ◌≤◌, ◌<◌, ◌||◌, Bool, true, false, cond, List, [], ◌∷◌, take, drop, length, Option, Some, None, append-nil, append_assoc, refl, arith, ap, sym, subst, ◌∙◌}
+use Rattle.machine.specs.World.{World}
 use Rattle.outcome.specs.declared.expect.Exit.{Exit}
 use Rattle.campaign_bounded.specs.Walk.{Led}
 use Rattle.cmd_form.specs.declared.form.Form.{Form}
@@ -95,9 +96,9 @@ drop_none : (n : ℕ) → drop n no_led ≡ []
 drop_none zero = refl
 drop_none (suc n) = refl
 
-module _ (campaign : BoundedCampaign) (inputs : List ℕ) where
+module _ (campaign : BoundedCampaign) (start : World) (inputs : List ℕ) where
   abbrev pub ends_of : ℕ → ℕ → List Led → List SeedEnding
-  ends_of number count leds = endings_from campaign inputs number (take count leds)
+  ends_of number count leds = endings_from campaign start inputs number (take count leds)
 
   -- so many of the runs are told
   pub record SoFar (all rest : List Led) (before now : ToldValue) (done : ℕ) : Type 0 where
@@ -127,7 +128,7 @@ module _ (campaign : BoundedCampaign) (inputs : List ℕ) where
   module _ (all old new : List Led) (before was now : ToldValue) (done : ℕ) (so_far : SoFar all old before was done) where
     -- one more
     pub goes_on : (led : Led) (end : SeedEnding) → done < campaign.count → old ≡ led ∷ new
-        → end ≡ schedule_ending campaign inputs (campaign.first + done) led
+        → end ≡ schedule_ending campaign start inputs (campaign.first + done) led
         → now ≡ told_with campaign.form campaign.report campaign.expect.exit was end → SoFar all new before now (done + 1)
     goes_on led end there is ended adds =
         let k : campaign.count - done ≡ suc (campaign.count - (done + 1)) = omega (arith, there) in
@@ -140,10 +141,10 @@ module _ (campaign : BoundedCampaign) (inputs : List ℕ) where
         record {
           told = ap (λ v. told_after campaign.form campaign.report campaign.expect.exit v
               (ends_of (campaign.first + (done + 1)) (campaign.count - (done + 1)) new)) (adds ∙ ap (told_with campaign.form campaign.report campaign.expect.exit was) ended)
-              ∙ told-more campaign.form campaign.report campaign.expect.exit was (schedule_ending campaign inputs (campaign.first + done) led) _
+              ∙ told-more campaign.form campaign.report campaign.expect.exit was (schedule_ending campaign start inputs (campaign.first + done) led) _
               ∙ ap (λ m. told_after campaign.form campaign.report campaign.expect.exit was
-              (schedule_ending campaign inputs (campaign.first + done) led ∷ ends_of m (campaign.count - (done + 1)) new)) (sym n)
-              ∙ ap (λ ls. told_after campaign.form campaign.report campaign.expect.exit was (endings_from campaign inputs (campaign.first + done) ls)) (sym e)
+              (schedule_ending campaign start inputs (campaign.first + done) led ∷ ends_of m (campaign.count - (done + 1)) new)) (sym n)
+              ∙ ap (λ ls. told_after campaign.form campaign.report campaign.expect.exit was (endings_from campaign start inputs (campaign.first + done) ls)) (sym e)
               ∙ so_far.told;
           number = let h = so_far.number in omega (arith, l, h);
           left = sym d ∙ so_far.left;
@@ -152,16 +153,16 @@ module _ (campaign : BoundedCampaign) (inputs : List ℕ) where
 
     -- the same where one was given
     pub one_told : {Z : Type 0} (next : Option (SeedEnd Z)) (end : SeedEnd Z) → next ≡ Some end
-        → GivesEnd campaign inputs (campaign.first + done) next old new → done < campaign.count
+        → GivesEnd campaign start inputs (campaign.first + done) next old new → done < campaign.count
         → now ≡ told_with campaign.form campaign.report campaign.expect.exit was (seed_ending end) → SoFar all new before now (done + 1)
     one_told next end is gives there adds =
-        let given : GivesEnd campaign inputs (campaign.first + done) (Some end) old new
-        = subst (λ o. GivesEnd campaign inputs (campaign.first + done) o old new) is gives in
+        let given : GivesEnd campaign start inputs (campaign.first + done) (Some end) old new
+        = subst (λ o. GivesEnd campaign start inputs (campaign.first + done) o old new) is gives in
         goes_on given.0 (seed_ending end) there given.1 given.2 adds
 
   module _ (all old : List Led) (before was : ToldValue) (done : ℕ) (so_far : SoFar all old before was done) where
     -- none is left
-    pub at_none : old ≡ [] → TellsRange campaign inputs all done before was []
+    pub at_none : old ≡ [] → TellsRange campaign start inputs all done before was []
     at_none none =
         let t : take (campaign.count - done) old ≡ [] = ap (take (campaign.count - done)) none ∙ take_none (campaign.count - done) in
         let d : drop (campaign.count - done) old ≡ [] = ap (drop (campaign.count - done)) none ∙ drop_none (campaign.count - done) in
@@ -169,14 +170,14 @@ module _ (campaign : BoundedCampaign) (inputs : List ℕ) where
         let h = so_far.number in
         record {
           told = sym (told-none campaign.form campaign.report campaign.expect.exit was)
-              ∙ ap (λ ls. told_after campaign.form campaign.report campaign.expect.exit was (endings_from campaign inputs (campaign.first + done) ls)) (sym t)
+              ∙ ap (λ ls. told_after campaign.form campaign.report campaign.expect.exit was (endings_from campaign start inputs (campaign.first + done) ls)) (sym t)
               ∙ so_far.told;
           number = omega (arith, l, h);
           left = sym d ∙ so_far.left;
         }
 
     -- the range is at its end
-    pub at_end : done ≡ campaign.count → TellsRange campaign inputs all campaign.count before was old
+    pub at_end : done ≡ campaign.count → TellsRange campaign start inputs all campaign.count before was old
     at_end whole =
         let z : campaign.count - done ≡ 0 = omega (arith, whole) in
         let t : take (campaign.count - done) old ≡ [] = ap (λ n. take n old) z in
@@ -185,7 +186,7 @@ module _ (campaign : BoundedCampaign) (inputs : List ℕ) where
         let h = so_far.number in
         record {
           told = sym (told-none campaign.form campaign.report campaign.expect.exit was)
-              ∙ ap (λ ls. told_after campaign.form campaign.report campaign.expect.exit was (endings_from campaign inputs (campaign.first + done) ls)) (sym t)
+              ∙ ap (λ ls. told_after campaign.form campaign.report campaign.expect.exit was (endings_from campaign start inputs (campaign.first + done) ls)) (sym t)
               ∙ so_far.told;
           number = omega (arith, l, h, whole);
           left = sym d ∙ so_far.left;

@@ -1,6 +1,7 @@
 -- The report of a range of schedules.
 use Rattle.std.proofs.Common.{◌≡◌, ℕ, suc, ◌+◌, List, [], ◌∷◌, ◌++◌, take, length, refl, ap, ap₂, sym, ◌∙◌}
 use Rattle.std.specs.Prelude.{is_some}
+use Rattle.machine.specs.World.{World}
 use Rattle.outcome.specs.Expect.{status_by}
 use Rattle.campaign_bounded.specs.Walk.{Led}
 use Rattle.campaign_runs.specs.Runs.{SeedEnding}
@@ -13,22 +14,22 @@ use Rattle.cmd_bounded.specs.Runs.{endings_from}
 use Rattle.cmd_bounded.specs.Told.{ToldValue, TellsRange, nothing_told, told_after}
 use Rattle.cmd_bounded.specs.declared.bounded.BoundedCampaign.{BoundedCampaign}
 
-module _ (campaign : BoundedCampaign) (inputs : List ℕ) where
+module _ (campaign : BoundedCampaign) (start : World) (inputs : List ℕ) where
   -- as many runs as schedules
-  length-endings : (number : ℕ) (leds : List Led) → length (endings_from campaign inputs number leds) ≡ length leds
+  length-endings : (number : ℕ) (leds : List Led) → length (endings_from campaign start inputs number leds) ≡ length leds
   length-endings number [] = refl
   length-endings number (led ∷ more) = ap suc (length-endings (number + 1) more)
 
   -- the runs of the range
   abbrev range_ends : List Led → List SeedEnding
-  range_ends old = endings_from campaign inputs campaign.first (take campaign.count old)
+  range_ends old = endings_from campaign start inputs campaign.first (take campaign.count old)
 
   pub range_reported : (old new : List Led) (count : ℕ) (before after : ToldValue) (lines text : List ℕ) (finished : Finished)
-      → before ≡ nothing_told → TellsRange campaign inputs old count before after new
+      → before ≡ nothing_told → TellsRange campaign start inputs old count before after new
       → finished.status ≡ status_by after.is_broken (is_some after.first_failure) → finished.first_failure ≡ after.first_failure
       → finished.seeds ≡ count
       → lines ≡ after.text ++ schedules_entries campaign.form after.rows → text ≡ lines ++ covered_line campaign count new
-      → (text, finished) ≡ reported_range campaign inputs old
+      → (text, finished) ≡ reported_range campaign start inputs old
   unfolding reported_range
   range_reported old new count before after lines text finished empty tells status first runs rows covered =
       let ends = range_ends old in

@@ -2,6 +2,8 @@
 use Rattle.std.specs.Prelude.{ℕ, List, ◌++◌, take, drop, length}
 use Rattle.std.specs.declared.result.Result.{Result}
 use Rattle.std.specs.declared.result.Result.TheVariants.{Ok}
+use Rattle.machine.specs.Start.{started}
+use Rattle.machine.specs.World.{World}
 use Rattle.program_open.specs.Opening.{after_program}
 use Rattle.program_open.specs.Program.{program_of}
 use Rattle.program_open.specs.declared.program.ProgramForm.TheVariants as form
@@ -25,14 +27,14 @@ reported_runs campaign ends left = (
   finished_of campaign.expect.exit ends,
 )
 
--- that of the runs over a range of the schedules from the first one on
-unfoldable pub reported_range : BoundedCampaign → List ℕ → List Led → List ℕ × Finished
-reported_range campaign inputs from = reported_runs campaign
-    (endings_from campaign inputs campaign.first (take campaign.count from))
+-- that of the runs from a program's start over a range of the schedules from the first one on
+unfoldable pub reported_range : BoundedCampaign → World → List ℕ → List Led → List ℕ × Finished
+reported_range campaign start inputs from = reported_runs campaign
+    (endings_from campaign start inputs campaign.first (take campaign.count from))
     (drop campaign.count from)
 
 -- the answer over an ELF file: the number of inputs is checked before the first run
 unfoldable pub bounded_answer : BoundedCampaign → List ℕ → List ℕ → Result (List ℕ × Finished) CommandFault
 bounded_answer campaign inputs bytes = after_program (length inputs)
-    (λ image. Ok (reported_range campaign inputs (drop campaign.first (every_schedule campaign image inputs))))
+    (λ image. Ok (reported_range campaign (started image inputs) inputs (drop campaign.first (every_schedule campaign image inputs))))
     (program_of form.Elf bytes)

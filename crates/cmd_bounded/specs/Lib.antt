@@ -3,3 +3,4 @@ pub mod Lines
 pub mod Told
 pub mod Answers
 pub mod Choices
+pub mod Until

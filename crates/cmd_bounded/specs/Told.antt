@@ -1,5 +1,6 @@
 -- What is reported of runs so far.
 use Rattle.std.specs.Prelude.{◌≡◌, ℕ, Bool, false, ◌||◌, List, [], ◌++◌, take, drop, length, Option, Some, None, string_bytes, if◌then◌else◌}
+use Rattle.machine.specs.World.{World}
 use Rattle.outcome.specs.declared.expect.Exit.{Exit}
 use Rattle.campaign_bounded.specs.Walk.{Led}
 use Rattle.cmd_form.specs.declared.form.Form.{Form}
@@ -67,8 +68,8 @@ told_after form report exit told ends = record {
 }
 
 -- the runs over the schedules of a range are told, and their number is given; the others are left
-pub record TellsRange (campaign : BoundedCampaign) (inputs : List ℕ) (old : List Led) (count : ℕ) (before after : ToldValue) (new : List Led) : Type 0 where
+pub record TellsRange (campaign : BoundedCampaign) (start : World) (inputs : List ℕ) (old : List Led) (count : ℕ) (before after : ToldValue) (new : List Led) : Type 0 where
   pub told : after ≡ told_after campaign.form campaign.report campaign.expect.exit before
-      (endings_from campaign inputs campaign.first (take campaign.count old))
+      (endings_from campaign start inputs campaign.first (take campaign.count old))
   pub number : count ≡ length (take campaign.count old)
   pub left : new ≡ drop campaign.count old

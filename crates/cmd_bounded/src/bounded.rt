@@ -1,6 +1,6 @@
 //! The runs that are asked for.
 
-use cmd_campaign::{Expect, Form, Report};
+use cmd_campaign::{Expect, Form, Properties, Report};
 
 /// A run over each of at most `count` schedules from number `first` on, of those with at most
 /// `preemptions` preemptions and `steps` choices.
@@ -16,6 +16,8 @@ pub struct BoundedCampaign {
     pub preemptions: u32,
     /// What is expected of each run.
     pub expect: Expect,
+    /// The properties of one's own that each run is judged by.
+    pub properties: Properties,
     /// What is reported of the runs.
     pub report: Report,
     /// In which form it is reported.

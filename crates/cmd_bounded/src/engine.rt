@@ -2,6 +2,8 @@
 //! schedules.
 
 ghost use Rattle.std.specs.Prelude.{◌≡◌, ◌+◌, ◌-◌, ◌^◌, ◌<◌, Ok, Err, IfOk, IfErr, IfSome, drop, length, string_bytes};
+ghost use Rattle.machine.specs.Machine.{world};
+ghost use Rattle.machine.specs.Start.{started};
 ghost use Rattle.campaign_bounded.specs.Walk.{schedules_left};
 ghost use Rattle.program_open.specs.CommandFaults.{IfNames, IsRefusal};
 ghost use Rattle.cmd_bounded.specs.Answers.{bounded_answer, reported_range};
@@ -47,16 +49,17 @@ pub(crate) fn walk_of<S: FromImage<A>, A: Allocator + Copy>(
 fn report_range<S: FromImage<A>, A: Allocator + Copy>(
     alloc: A,
     walk: &mut Schedules<S, A>,
+    start: &Machine<S, A>,
     inputs: &Inputs,
     campaign: BoundedCampaign,
     progress: &mut impl Progress,
 ) -> Result<(String<A>, Finished), AllocError>
     requires fits { campaign.first + campaign.count < 2 ^ 64 }
     ensures { IfOk result (λ answer. (string_bytes answer.0, answer.1)
-        ≡ reported_range campaign inputs.now (schedules_left S.memory walk.old)) }
+        ≡ reported_range campaign (world S.memory start.now) inputs.now (schedules_left S.memory walk.old)) }
 {
     let mut told = Told::new(alloc);
-    let count = tell_range(alloc, walk, inputs, campaign, &mut told, progress)?;
+    let count = tell_range(alloc, walk, start, inputs, campaign, &mut told, progress)?;
     let finished = told.finished(count);
     let mut text = told.text;
     push_rows(&mut text, campaign.form, &told.tally)?;
@@ -74,12 +77,13 @@ fn report_image<A: Allocator + Copy>(
 ) -> Result<(String<A>, Finished), AllocError>
     requires fits { campaign.first + campaign.count < 2 ^ 64 }
     ensures { IfOk result (λ answer. (string_bytes answer.0, answer.1)
-        ≡ reported_range campaign inputs.now
+        ≡ reported_range campaign (started image.now inputs.now) inputs.now
         (drop campaign.first (every_schedule campaign image.now inputs.now))) }
 {
-    let mut walk: Schedules<FlatStore<A>, A> = walk_of(alloc, image, inputs, campaign)?;
+    let start: Machine<FlatStore<A>, A> = Machine::start(alloc, image, inputs)?;
+    let mut walk = walk_of(alloc, image, inputs, campaign)?;
     walk.skip(alloc, campaign.first)?;
-    report_range(alloc, &mut walk, inputs, campaign, progress)
+    report_range(alloc, &mut walk, &start, inputs, campaign, progress)
 }
 
 /// `campaign --preemptions`: reads an ELF file to its end, and does the run over each schedule of a

@@ -4,8 +4,9 @@
 
 pub use bounded::BoundedCampaign;
 pub use choices::bounded_choices_engine;
-pub use cmd_campaign::{Exit, Expect, Finished, Form, Report};
+pub use cmd_campaign::{Exit, Expect, Finished, Form, Properties, Report};
 pub use engine::bounded_engine;
+pub use until::bounded_until_engine;
 
 mod bounded;
 mod choices;
@@ -16,3 +17,4 @@ mod ranged;
 mod rows;
 mod run;
 mod told;
+mod until;

@@ -1,6 +1,7 @@
 //! The runs over a range of schedules.
 
 ghost use Rattle.std.specs.Prelude.{◌≡◌, ◌+◌, ◌-◌, ◌<◌, ◌^◌, IfOk};
+ghost use Rattle.machine.specs.Machine.{world};
 ghost use Rattle.campaign_bounded.specs.Walk.{schedules_left};
 ghost use Rattle.campaign_runs.specs.Tally.{seeds_in, tally_rows};
 ghost use Rattle.cmd_bounded.specs.Told.{told_value, TellsRange};
@@ -10,7 +11,7 @@ use crate::run::next_end;
 use crate::told::Told;
 use byte_io::Progress;
 use campaign_bounded::Schedules;
-use machine::Inputs;
+use machine::{Inputs, Machine};
 use mem_store::FromImage;
 use std::alloc::{AllocError, Allocator};
 
@@ -19,6 +20,7 @@ use std::alloc::{AllocError, Allocator};
 pub(crate) fn tell_range<S: FromImage<A>, A: Allocator + Copy>(
     alloc: A,
     walk: &mut Schedules<S, A>,
+    start: &Machine<S, A>,
     inputs: &Inputs,
     campaign: BoundedCampaign,
     told: &mut Told<A>,
@@ -26,12 +28,13 @@ pub(crate) fn tell_range<S: FromImage<A>, A: Allocator + Copy>(
 ) -> Result<u64, AllocError>
     requires fits { campaign.first + campaign.count < 2 ^ 64 }
     requires none { seeds_in (tally_rows told.old.tally) ≡ 0 }
-    ensures { IfOk result (λ count. TellsRange campaign inputs.now
+    ensures { IfOk result (λ count. TellsRange campaign (world S.memory start.now) inputs.now
         (schedules_left S.memory walk.old) count (told_value told.old) (told_value told.new)
         (schedules_left S.memory walk.new)) }
 {
     'schedules: for done in 0..campaign.count {
-        let Some(end) = next_end(alloc, walk, inputs, campaign, campaign.first + done)? else {
+        let Some(end) = next_end(alloc, walk, start, inputs, campaign, campaign.first + done)?
+        else {
             return Ok(done);
         };
         told.add(campaign, end)?;
