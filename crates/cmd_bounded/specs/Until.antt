@@ -32,17 +32,18 @@ abbrev pub found_entry : Form → Option SeedEnding → List ℕ
 found_entry form None = []
 found_entry form (Some end) = numbered_entry form end
 
--- the status and the number of a run, if there is one
-abbrev pub found_end : Exit → Option SeedEnding → Finished
-found_end exit None = record { status = status.Done; first_failure = None }
-found_end exit (Some end) = record { status = ending_status exit end.ending; first_failure = Some end.seed }
+-- after so many runs, the status and the number of the one that has failed, if there is one
+abbrev pub found_end : Exit → ℕ → Option SeedEnding → Finished
+found_end exit count None = record { status = status.Done; first_failure = None; seeds = count }
+found_end exit count (Some end) =
+    record { status = ending_status exit end.ending; first_failure = Some end.seed; seeds = count }
 
 -- the line of the first run that has failed, what is covered up to it, and its status and number; or
 -- that all are covered, and that no run has failed
 abbrev pub found_report : BoundedCampaign → ℕ → Option SeedEnding → List Led → List ℕ × Finished
 found_report campaign count found left = (
   found_entry campaign.form found ++ covered_line campaign count left,
-  found_end campaign.expect.exit found,
+  found_end campaign.expect.exit count found,
 )
 
 -- that of the runs from a program's start over a range of the schedules

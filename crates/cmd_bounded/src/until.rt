@@ -84,18 +84,20 @@ fn push_found<A: Allocator>(
     }
 }
 
-// The status and the number of the first run that has failed, if one has.
-fn finished_at<A: Allocator>(expect: Expect, found: &Option<SeedEnd<A>>) -> Finished
-    ensures { result ≡ found_end expect.exit (found_ending found.now) }
+// After so many runs, the status and the number of the first that has failed, if one has.
+fn finished_at<A: Allocator>(expect: Expect, count: u64, found: &Option<SeedEnd<A>>) -> Finished
+    ensures { result ≡ found_end expect.exit count (found_ending found.now) }
 {
     match found {
         None => Finished {
             status: Status::Done,
             first_failure: None,
+            seeds: count,
         },
         Some(end) => Finished {
             status: status_by(end.ending.breaks(), end.ending.faults(expect)),
             first_failure: Some(end.seed),
+            seeds: count,
         },
     }
 }
@@ -118,7 +120,7 @@ fn report_until<S: FromImage<A>, A: Allocator + Copy>(
     let mut text = String::new(alloc);
     push_found(&mut text, campaign.form, &found.failing)?;
     push_covered(alloc, &mut text, walk, campaign, found.count)?;
-    let finished = finished_at(campaign.expect, &found.failing);
+    let finished = finished_at(campaign.expect, found.count, &found.failing);
     Ok((text, finished))
 }
 
