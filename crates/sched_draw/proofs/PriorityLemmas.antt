@@ -1,16 +1,14 @@
 -- Priorities: how they are drawn, and what is chosen by them.
-use Rattle.std.proofs.Common.{◌≡◌, ◌≢◌, ℕ, zero, suc, ◌+◌, ◌-◌, ◌%◌, ◌<◌, ◌≤◌, ◌==◌, Bool, true, false, ◌||◌, not, List, [], ◌∷◌, ◌++◌, Option, Some, None, length, min, max, take, drop, filter, get_or, insert, map, option_map, refl, arith, ap, ap₂, sym, subst, ◌∙◌, mod-lt, true≢false, if◌then◌else◌, inl, inr, ◌⊎◌}
+use Rattle.std.proofs.Common.{◌≡◌, ◌≢◌, ℕ, zero, suc, ◌+◌, ◌-◌, ◌%◌, ◌<◌, ◌≤◌, ◌==◌, Bool, true, false, ◌||◌, not, List, [], ◌∷◌, ◌++◌, Option, Some, None, length, min, max, take, drop, filter, insert, refl, arith, ap, ap₂, sym, subst, ◌∙◌, mod-lt, true≢false, if◌then◌else◌, inl, inr, ◌⊎◌}
 use Rattle.std.proofs.lemmas.Bool.{eq-eqb, eqb-true, ne_eqb}
 use Rattle.std.proofs.lemmas.List.{take-append-drop, length_push}
 use Rattle.std.proofs.lemmas.List.Edits.{length-insert}
 use Rattle.std.proofs.lemmas.List.Elements.{All-nil, All-cons, All-head, All-tail, All-append, All-push, All-take, All-drop, All-weaker, All-filter, filter_passes, Contains-append_left, Contains-append_right, Contains-append_cases, Contains-push}
-use Rattle.std.proofs.lemmas.Option.{slice_get-get_or, slice_get-map, slice_get_within}
+use Rattle.std.proofs.lemmas.Option.{slice_get_within}
 use Rattle.std.specs.List.{All, Contains, slice_get}
 use Rattle.rand_pcg.specs.Lcg.{Lcg}
 use Rattle.rand_pcg.specs.Pcg.{pcg32}
-use Rattle.mem_store.specs.Memory.{Memory}
-use Rattle.hart_step.specs.Hart.{HartValue, hart_of}
-use Rattle.hart_step.specs.declared.hart.Hart.{Hart}
+use Rattle.hart_step.specs.Hart.{HartValue}
 use Rattle.machine.specs.Running.{goes, runs}
 use Rattle.machine.specs.World.{World, step, run}
 use Rattle.machine.specs.declared.choice.Choice.{Choice}

@@ -1,5 +1,4 @@
 -- The state of drawing by priorities.
-use Rattle.std.specs.Prelude.{Option}
 use Rattle.std.specs.Option.{option_map}
 use Rattle.hart_step.specs.Hart.{hart_of}
 use Rattle.sched_draw.specs.Priorities.{PriorityDrawing, WatchedDrawing}

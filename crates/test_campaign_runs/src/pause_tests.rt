@@ -78,7 +78,11 @@ fn is_chosen(alloc: Global, row: &Row, seed: u64) -> Option<bool> {
 fn a_hart_falls_with_its_pause_alone(rt: HostRuntime) {
     for row in &ROWS {
         for seed in 1..9u64 {
-            assert!(rt; is_chosen(rt.alloc(), row, seed) == Some(true), "{} {seed}", row.name);
+            assert!(rt;
+                is_chosen(rt.alloc(), row, seed) == Some(true),
+                "{} {seed}",
+                row.name
+            );
         }
     }
 }

@@ -1,4 +1,3 @@
-use Rattle.std.proofs.Common.{◌∙◌}
 use Rattle.hart_step.specs.Hart.{hart_of}
 use Rattle.sched_draw.proofs.SpinLemmas.{register_more}
 use Rattle.sched_draw.proofs.spinning.has_registers_of.Goals as goal

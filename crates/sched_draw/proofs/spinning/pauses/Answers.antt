@@ -1,4 +1,4 @@
-use Rattle.std.proofs.Common.{◌∙◌, sym}
+use Rattle.std.proofs.Common.{◌∙◌}
 use Rattle.hart_step.specs.Hart.{hart_of}
 use Rattle.sched_draw.proofs.SpinLemmas.{not_paused}
 use Rattle.sched_draw.proofs.spinning.pauses.Goals as goal

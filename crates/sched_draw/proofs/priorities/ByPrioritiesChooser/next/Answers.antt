@@ -1,4 +1,4 @@
-use Rattle.std.proofs.Common.{◌≡◌, ◌<◌, ◌||◌, ap, ap₂, length, option_map, sym, subst, ◌∙◌}
+use Rattle.std.proofs.Common.{◌<◌, ◌||◌, ap, ap₂, length, option_map, sym, subst, ◌∙◌}
 use Rattle.std.specs.List.{All}
 use Rattle.hart_step.specs.Hart.{hart_of}
 use Rattle.machine.specs.Machine.{world}
