@@ -6,8 +6,7 @@ ghost use Rattle.std.specs.Prelude.{◌≡◌};
 use byte_io::{Failing, FullSink, MemorySink, MemorySource, Status, Unheard};
 use cmd_asm::{AssemblyFault, assembled_file, listing_engine, write_file};
 use cmd_campaign::{
-    Campaign, Form, Hangs, Jobs, OnThreads, Properties, Report, Unlimited, Words,
-    campaign_engine,
+    Campaign, Form, Hangs, Jobs, OnThreads, Properties, Report, Unlimited, Words, campaign_engine,
 };
 use cmd_debug::{DebugEngineFault, debug_engine};
 use cmd_replay::replay_engine;
