@@ -25,6 +25,14 @@ HINT = (
     "    rvcons run a.elf --inputs 2,2 --seed 5 --steps 300 --always 'counter < 2'\n"
     "    rvcons shrink a.elf --inputs 2,2 --seed 5 --steps 300 --always 'counter < 2'\n"
 )
+# The same of the schedules without a preemption.
+BOUNDED = ["campaign", "a.elf", "--inputs", "2,2", "--preemptions", "0", "--steps", "40", "--until-failure", "--always", "counter < 2"]
+BOUNDED_HINT = (
+    "schedule 0 is the first such one. To look into it:\n"
+    "    rvcons campaign a.elf --inputs 2,2 --preemptions 0 --steps 40 --choices-of 0 >failing.choices\n"
+    "    rvcons debug a.elf --inputs 2,2 --choices failing.choices\n"
+    "    rvcons run a.elf --inputs 2,2 --choices failing.choices --always 'counter < 2'\n"
+)
 
 # What is asked of every schedule of amo.s, the turns of the list that fails, and what is told of it.
 EXPLORED = [
@@ -65,6 +73,8 @@ def properties():
         check(f"a property {asked} at a terminal", at_terminal(words), told)
     check("a campaign's property through a pipe", through_pipe(CAMPAIGN)[0], "")
     check("a campaign's property at a terminal", at_terminal(CAMPAIGN)[-len(HINT):], HINT)
+    check("a bounded campaign's property through a pipe", through_pipe(BOUNDED)[0], "")
+    check("a bounded campaign's property at a terminal", at_terminal(BOUNDED), BOUNDED_HINT)
     for asked, turns, told in EXPLORED:
         words = ["explore", "a.elf", "--inputs", "2,2", *asked]
         check(f"every schedule {asked} through a pipe", through_pipe(words)[0], "")
