@@ -1,7 +1,7 @@
 //! Worked texts of properties, over symbols.
 use elf_read::{Symbol, SymbolKind, SymbolPlace};
 use property_judge::{Comparison, Order, Property};
-use property_text::{PropertyFault, read_always, read_never_both};
+use property_text::{PropertyFault, read_always, read_never_both, word_meant};
 use std::alloc::{AllocError, Allocator, Global};
 
 const SYMBOLS: [(&str, u32); 6] = [
@@ -62,6 +62,19 @@ const NOT_ALWAYS: [(&str, PropertyFault); 20] = [
     ("lock == -2147483649", PropertyFault::BadNumber),
     ("lock == 4294967296", PropertyFault::BadNumber),
     ("lock == -0x1", PropertyFault::BadNumber),
+];
+
+// A text of a word alone, with its address, or why it has none.
+#[rattlefmt::skip]
+const WORDS: [(&str, Result<u32, PropertyFault>); 8] = [
+    ("lock", Ok(LOCK)),
+    ("lock+4", Ok(LOCK + 4)),
+    ("0x20000", Ok(0x0002_0000)),
+    ("", Err(PropertyFault::BadAddress)),
+    (" lock", Err(PropertyFault::NoSymbol)),
+    ("nowhere", Err(PropertyFault::NoSymbol)),
+    ("twice", Err(PropertyFault::SeveralSymbols)),
+    ("lock+2", Err(PropertyFault::Misaligned)),
 ];
 
 // A text of `--never-both`, with its first address and the one behind its last.
@@ -138,6 +151,17 @@ fn texts_say_no_words_compared(rt: HostRuntime) {
     for (text, fault) in &NOT_ALWAYS {
         let text = *text;
         assert!(rt; always_of(rt.alloc(), text) == Some(Err(*fault)), "{text}");
+    }
+}
+
+#[test]
+fn texts_say_words(rt: HostRuntime) {
+    for (text, wanted) in &WORDS {
+        let text = *text;
+        let Ok(symbols) = symbols_of(rt.alloc()) else {
+            return;
+        };
+        assert!(rt; word_meant(&symbols, text.as_bytes()) == *wanted, "{text}");
     }
 }
 
