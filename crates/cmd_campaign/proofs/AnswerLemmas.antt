@@ -137,8 +137,14 @@ module _ (campaign : Campaign) (inputs : List ℕ) (image : ImageValue) (startab
   begins_answer never r why old new begun is =
       let h = subst (λ x. IfErr x (λ _. ForFirst never campaign.count (λ n. Begins (first_report n) old new))) is begun in (
         h.0,
-        (h.1.0, (h.1.1.0, subst (λ answer. BeginsToPrint answer old new)
-            (sym (answer_of_runs (first_seeds h.0 campaign) inputs image startable)) h.1.1.1)),
+        (
+          h.1.0,
+          (
+            h.1.1.0,
+            subst (λ answer. BeginsToPrint answer old new)
+                (sym (answer_of_runs (first_seeds h.0 campaign) inputs image startable)) h.1.1.1,
+          ),
+        ),
       )
 
   -- the whole report of the first seeds, where the runs came to their end

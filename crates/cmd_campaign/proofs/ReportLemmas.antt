@@ -154,6 +154,15 @@ pub for_all : (campaign : Campaign) (image : ImageValue) (inputs : List ℕ) (ne
     → Begins (report_text campaign.form campaign.report campaign.expect.exit (all_endings campaign image inputs)) old new
     → ForFirst never campaign.count
     (λ n. Begins (report_text campaign.form campaign.report campaign.expect.exit (first_endings n campaign image inputs)) old new)
-for_all campaign image inputs never old new h = (campaign.count, (omega arith, ((λ _. refl), subst
-    (λ ends. Begins (report_text campaign.form campaign.report campaign.expect.exit ends) old new)
-    (sym (first_of_all campaign image inputs campaign.count refl)) h)))
+for_all campaign image inputs never old new h = (
+  campaign.count,
+  (
+    omega arith,
+    (
+      (λ _. refl),
+      subst
+          (λ ends. Begins (report_text campaign.form campaign.report campaign.expect.exit ends) old new)
+          (sym (first_of_all campaign image inputs campaign.count refl)) h,
+    ),
+  ),
+)

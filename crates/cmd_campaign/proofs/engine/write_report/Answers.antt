@@ -16,10 +16,17 @@ returns-in-Ok-write_rows-clause-written g c =
     c.in-Ok.ensures.written c.in-Ok-write_rows.ensures.written
 
 pub returns-clause-begun : goal.returns-clause-begun
-returns-clause-begun g c =
-    (_, (c.in-Ok.ensures.seeds, (c.in-Ok.ensures.all,
-    report_begun c.args.campaign.form c.args.campaign.expect.exit c.args.campaign.report _ _ c.in-Ok.ensures.counted _ _ _
-    c.in-Ok.ensures.written c.in-Err-write_rows.ensures.begun)))
+returns-clause-begun g c = (
+  _,
+  (
+    c.in-Ok.ensures.seeds,
+    (
+      c.in-Ok.ensures.all,
+      report_begun c.args.campaign.form c.args.campaign.expect.exit c.args.campaign.report _ _ c.in-Ok.ensures.counted _ _ _
+          c.in-Ok.ensures.written c.in-Err-write_rows.ensures.begun,
+    ),
+  ),
+)
 
 pub returns-clause-whole : goal.returns-clause-whole
 returns-clause-whole g c = λ summary other.
