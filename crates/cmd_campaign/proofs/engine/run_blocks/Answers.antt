@@ -1,7 +1,7 @@
 use Rattle.std.proofs.Common.{◌+◌, ◌||◌, map, refl, rules, ap, sym, ◌∙◌}
 use Rattle.campaign_runs.specs.Runs.{seed_ending, endings_of}
 use Rattle.cmd_campaign.specs.Status.{any_breaks, any_faults, first_failure, first_or}
-use Rattle.cmd_campaign.proofs.BlockLemmas.{at_start, block_length, fewer, goes_on, halts_between, halts_in_block, number_fits, room, seeds_all, seeds_within, split, stops}
+use Rattle.cmd_campaign.proofs.BlockLemmas.{at_start, block_length, endings_none, fewer, goes_on, halts_between, halts_in_block, room, seeds_all, seeds_within, split, stops}
 use Rattle.cmd_campaign.proofs.engine.run_blocks.Goals as goal
 
 pub blocks-2-init : goal.blocks-2-init
@@ -72,4 +72,4 @@ returns-clause-seeds g c =
 pub returns-clause-all : goal.returns-clause-all
 returns-clause-all g c = λ never.
     seeds_all c.args.campaign c.args.image.now c.args.inputs.now _ _ _ _ _ _ _ _ c.blocks-2.invariant.0 _ c.finished.ensures.seeds
-    (ap (endings_of c.args.campaign c.args.image.now c.args.inputs.now) (c.in_default.ensures.order (c.blocks-2.invariant.1.1 never)))
+    (endings_none c.args.campaign c.args.image.now c.args.inputs.now _ (c.in_default.ensures.order (c.blocks-2.invariant.1.1 never)))
