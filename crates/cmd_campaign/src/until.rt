@@ -106,7 +106,7 @@ fn find_failure<A: Allocator + Copy, W: Runner<A>, L: Limit>(
 /// one has failed or the limit is over, which is asked after each block of seeds. Returns the line
 /// of that run with its status, or no text with status 0 if no run fails. The seeds that were run
 /// are those of all blocks so far.
-#[tactic(auto, unfolding(crate::specs::Until::until_answer))]
+#[tactic(auto, unfolding(crate::specs::Until::until_answer, crate::specs::Answers::campaign_failure))]
 pub fn until_failure_engine<A: Allocator + Copy, W: Runner<A>, P: Source, L: Limit>(
     runner: &W,
     alloc: A,
