@@ -13,11 +13,8 @@ use Rattle.cmd_campaign.proofs.TallyLemmas.{as_many}
 module _ (campaign : Campaign) (image : ImageValue) (inputs : List ℕ) where
   -- as many seeds as there are
   pub first_of_all : (seeds : ℕ) → seeds ≡ campaign.count → first_endings seeds campaign image inputs ≡ all_endings campaign image inputs
-  first_of_all seeds all = ap (λ n. first_endings n campaign image inputs) all ∙ whole
-    where
-      whole : first_endings campaign.count campaign image inputs ≡ all_endings campaign image inputs
-      unfolding endings_of ending_from
-      whole = refl
+  unfolding endings_of ending_from
+  first_of_all seeds all = ap (λ n. first_endings n campaign image inputs) all
 
   -- the runs that are done are no more than all
   pub no_more : (done left : List SeedEnding) (seeds : ℕ) → all_endings campaign image inputs ≡ done ++ left → seeds ≡ length done

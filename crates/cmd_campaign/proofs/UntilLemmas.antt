@@ -96,6 +96,13 @@ module _ (exit : Exit) where
     pub counting : number ≡ length done
     pub none : first_failing exit done ≡ None
 
+  -- so many runs are done, and this is the first of them that has failed
+  pub record Failed (all left : List SeedEnding) (number : ℕ) (end : SeedEnding) : Type 0 where
+    pub done : List SeedEnding
+    pub order : all ≡ done ++ left
+    pub counting : number ≡ length done
+    pub found : first_failing exit done ≡ Some end
+
   pub none_yet : (all left : List SeedEnding) → left ≡ all → Unfailed all left 0
   none_yet all left whole = record { done = []; order = sym whole; counting = refl; none = refl }
 
@@ -126,14 +133,8 @@ module _ (exit : Exit) where
       none = failing_behind h.done block h.none ∙ none;
     }
 
-    -- one in it has failed: the runs as far as the end of the block, of which it is the first
-    pub record Failed (end : SeedEnding) : Type 0 where
-      pub done : List SeedEnding
-      pub order : all ≡ done ++ left
-      pub counting : number_now ≡ length done
-      pub found : first_failing exit done ≡ Some end
-
-    pub found_in_block : (end : SeedEnding) → first_failing exit block ≡ Some end → Failed end
+    -- one in it has failed
+    pub found_in_block : (end : SeedEnding) → first_failing exit block ≡ Some end → Failed all left number_now end
     found_in_block end is = record {
       done = h.done ++ block;
       order = order_now;

@@ -17,7 +17,7 @@ ghost use Rattle.cmd_campaign.specs.Status.{campaign_end};
 ghost use Rattle.cmd_campaign.specs.Summary.{counted_of, report_text, rows_text, IsSummary};
 
 use crate::findings::{Findings, count_failures};
-use crate::limit::Limit;
+use crate::limit::{Limit, next_block};
 use crate::record::record_block;
 use crate::rows::summary_text;
 use byte_io::{Progress, Sink, Source, Status, write_all};
@@ -95,7 +95,7 @@ fn run_blocks<A: Allocator + Copy, W: Runner<A>, K: Sink, L: Limit>(
     let mut found = Findings::NONE;
     let mut done = 0u64;
     let mut bad = 0u64;
-    'blocks: while let Some(block) = seeds.next_block(campaign.steps) {
+    'blocks: while let Some(block) = next_block(&mut seeds, campaign.steps, done, limit) {
         let ends = match runner.run_block(alloc, image, inputs, campaign, block) {
             Ok(ends) => ends,
             Err(AllocError) => return Err(CommandFault::Memory),
@@ -108,9 +108,6 @@ fn run_blocks<A: Allocator + Copy, W: Runner<A>, K: Sink, L: Limit>(
         done += block.count;
         bad = bad.saturating_add(count_failures(campaign.expect, &ends));
         progress.seeds_done(done, bad);
-        if limit.is_over() {
-            return Ok((tally, found.finished(done)));
-        }
     }
     Ok((tally, found.finished(done)))
 }

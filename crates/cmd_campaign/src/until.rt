@@ -11,7 +11,7 @@ ghost use Rattle.cmd_campaign.specs.Status.{first_failure};
 ghost use Rattle.cmd_campaign.specs.Until.{first_failing, ended_at, until_answer};
 
 use crate::engine::{Finished, see_count};
-use crate::limit::Limit;
+use crate::limit::{Limit, next_block};
 use crate::lines::push_end;
 use byte_io::{Progress, Source, Status};
 use campaign_runs::{Campaign, Form, Runner, SeedEnd, Seeds};
@@ -90,7 +90,7 @@ fn find_failure<A: Allocator + Copy, W: Runner<A>, L: Limit>(
     see_count(campaign);
     let mut seeds = Seeds::new(campaign.first, campaign.count);
     let mut done = 0u64;
-    'blocks: while let Some(block) = seeds.next_block(campaign.steps) {
+    'blocks: while let Some(block) = next_block(&mut seeds, campaign.steps, done, limit) {
         let ends = runner.run_block(alloc, image, inputs, campaign, block)?;
         done += block.count;
         if let Some(end) = first_failing(campaign.expect, &ends) {
@@ -98,9 +98,6 @@ fn find_failure<A: Allocator + Copy, W: Runner<A>, L: Limit>(
             return Ok(answer);
         }
         progress.seeds_done(done, 0);
-        if limit.is_over() {
-            return Ok((String::new(alloc), without_failure(done)));
-        }
     }
     Ok((String::new(alloc), without_failure(done)))
 }
@@ -109,7 +106,7 @@ fn find_failure<A: Allocator + Copy, W: Runner<A>, L: Limit>(
 /// one has failed or the limit is over, which is asked after each block of seeds. Returns the line
 /// of that run with its status, or no text with status 0 if no run fails. The seeds that were run
 /// are those of all blocks so far.
-#[tactic(auto, unfolding(crate::specs::Until::until_answer))]
+#[tactic(auto, unfolding(crate::specs::Until::until_answer, crate::specs::Answers::campaign_failure))]
 pub fn until_failure_engine<A: Allocator + Copy, W: Runner<A>, P: Source, L: Limit>(
     runner: &W,
     alloc: A,

@@ -116,3 +116,23 @@ fn limit_ends_a_search_without_failures(rt: HostRuntime) {
         assert!(rt; stops_with(rt.alloc(), PLAN, *blocks, "", finished));
     }
 }
+
+// Seeds of which one alone fails, in the second block.
+#[rattlefmt::skip]
+const RARE: Plan = Plan {
+    first: 21516, count: 9000, steps: 60, order: Order::Usual, rule: Some(Kind::Swap), exit: Exit::Must,
+};
+
+#[test]
+fn search_ends_at_its_limit_or_its_first_failure(rt: HostRuntime) {
+    assert!(rt; stops_with(rt.alloc(), RARE, 1, "", none_of(4096)));
+    let line = "seed 25712 exited 1 faulted 0 running 1 kept\n";
+    let finished = Finished {
+        status: Status::Faulted,
+        first_failure: Some(25712),
+        seeds: 8192,
+    };
+    for blocks in &[2, 9] {
+        assert!(rt; stops_with(rt.alloc(), RARE, *blocks, line, finished));
+    }
+}
