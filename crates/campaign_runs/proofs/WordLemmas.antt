@@ -1,14 +1,28 @@
--- Reports that name no word of world.
-use Rattle.std.proofs.Common.{◌≡◌, List, [], ◌++◌, refl, ap}
+-- What reports say of words of memory, and reports that name none.
+use Rattle.std.proofs.Common.{◌≡◌, ℕ, List, [], ◌++◌, codes, refl, ap, ◌∙◌, append_assoc}
+use Rattle.std.specs.Fmt.{decimal}
 use Rattle.std.proofs.lemmas.List.{append-nil}
 use Rattle.machine.specs.World.{World}
 use Rattle.cmd_form.specs.declared.form.Form.{Form}
 use Rattle.cmd_form.specs.declared.form.Form.TheVariants.{Text, Json}
 use Rattle.campaign_runs.specs.Ending.{EndingValue}
-use Rattle.campaign_runs.specs.Words.{ending_seeing, no_named_words, words_seen}
+use Rattle.campaign_runs.specs.Words.{ending_seeing, no_named_words, object_of_word, words_seen}
+use Rattle.campaign_runs.specs.declared.words.SeenWord.{SeenWord}
 use Rattle.campaign_runs.specs.declared.campaign.Report.{Report}
 use Rattle.campaign_runs.specs.declared.campaign.Report.TheVariants.{Lines, Failures, Summary, Outcomes, Causes}
 use Rattle.campaign_runs.specs.declared.words.Words.{Words}
+
+join : (old a d b e c : List ℕ) → ((old ++ a) ++ (d ++ (b ++ e))) ++ c ≡ old ++ (a ++ (d ++ (b ++ (e ++ c))))
+join old a d b e c = simp append_assoc
+
+-- the parts of a word's object, one behind another
+pub object_joined : (old opened valued whole : List ℕ) (seen : SeenWord) → opened ≡ old ++ codes "{\"address\":"
+    → valued ≡ opened ++ (decimal seen.address ++ (codes ",\"value\":" ++ decimal seen.value)) → whole ≡ valued ++ codes "}"
+    → whole ≡ old ++ object_of_word seen
+unfolding object_of_word
+object_joined old opened valued whole seen a b c =
+    c ∙ ap (λ text. text ++ codes "}") (b ∙ ap (λ text. text ++ (decimal seen.address ++ (codes ",\"value\":" ++ decimal seen.value))) a)
+    ∙ join old (codes "{\"address\":") (decimal seen.address) (codes ",\"value\":") (decimal seen.value) (codes "}")
 
 -- an ending gets nothing where no word is seen
 seeing_none : (form : Form) (ending : EndingValue) → ending_seeing form [] ending ≡ ending

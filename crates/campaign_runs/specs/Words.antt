@@ -39,7 +39,7 @@ abbrev pub text_of_word : SeenWord → List ℕ
 text_of_word seen = codes " " ++ (word_text seen.address ++ (codes "=" ++ word_text seen.value))
 
 -- a word as an object: `{"address":69696,"value":2}`
-abbrev pub object_of_word : SeenWord → List ℕ
+unfoldable pub object_of_word : SeenWord → List ℕ
 object_of_word seen =
     codes "{\"address\":" ++ (decimal seen.address ++ (codes ",\"value\":" ++ (decimal seen.value ++ codes "}")))
 

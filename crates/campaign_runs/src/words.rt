@@ -121,7 +121,7 @@ fn push_object<A: Allocator>(text: &mut String<A>, seen: SeenWord) -> Result<(),
     let (address, value) = (seen.address, seen.value);
     text.push_str("{\"address\":")?;
     write!(text, "{address},\"value\":{value}")?;
-    text.push('}')?;
+    text.push_str("}")?;
     Ok(())
 }
 
@@ -148,7 +148,7 @@ fn push_member<A: Allocator>(text: &mut String<A>, seen: &[SeenWord]) -> Result<
     text.push_str(",\"words\":[")?;
     push_object(text, *first)?;
     push_later(text, rest)?;
-    text.push(']')?;
+    text.push_str("]")?;
     Ok(())
 }
 

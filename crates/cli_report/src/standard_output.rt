@@ -1,6 +1,6 @@
 //! Standard output, whose reader may go away before all is written, as in `rvcons trace .. | head`.
 
-ghost use Rattle.std.specs.Prelude.{◌≡◌, Err, IfErr, IfOk};
+ghost use Rattle.std.specs.Prelude.{◌≡◌, Err, IfErr, IfOk, None};
 
 use byte_io::{DeviceFault, Sink, Status};
 use program_open::{CommandFault, write_text};
