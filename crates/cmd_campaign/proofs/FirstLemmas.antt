@@ -7,8 +7,12 @@ use Rattle.image.specs.Image.{ImageValue}
 use Rattle.machine.specs.Start.{started}
 use Rattle.campaign_runs.specs.Runs.{SeedEnding, all_endings, ending_from, endings_of}
 use Rattle.campaign_runs.specs.declared.campaign.Campaign.{Campaign}
-use Rattle.cmd_campaign.specs.First.{first_endings}
+use Rattle.cmd_campaign.specs.First.{first_endings, first_seeds}
 use Rattle.cmd_campaign.proofs.TallyLemmas.{as_many}
+
+-- the campaign of all seeds is the campaign
+pub all_seeds : (campaign : Campaign) (seeds : ℕ) → seeds ≡ campaign.count → first_seeds seeds campaign ≡ campaign
+all_seeds campaign seeds all = ap (λ n. first_seeds n campaign) all
 
 module _ (campaign : Campaign) (image : ImageValue) (inputs : List ℕ) where
   -- as many seeds as there are

@@ -13,6 +13,7 @@ use std::thread::Threads;
 use test_images::object_file;
 
 // Ends a campaign once so many blocks of seeds are done.
+#[derive(Drop)]
 struct Blocks {
     left: u64,
 }
