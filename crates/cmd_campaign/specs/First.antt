@@ -14,6 +14,7 @@ first_seeds seeds campaign = record {
   expect = campaign.expect;
   properties = campaign.properties;
   hangs = campaign.hangs;
+  words = campaign.words;
   report = campaign.report;
   form = campaign.form;
 }

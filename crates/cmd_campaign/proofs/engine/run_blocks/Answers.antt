@@ -1,7 +1,7 @@
-use Rattle.std.proofs.Common.{◌+◌, ◌||◌, map, refl, rules, ap, sym, ◌∙◌}
+use Rattle.std.proofs.Common.{arith, ◌+◌, ◌||◌, map, refl, rules, ap, sym, ◌∙◌}
 use Rattle.campaign_runs.specs.Runs.{seed_ending, endings_of}
 use Rattle.cmd_campaign.specs.Status.{any_breaks, any_faults, first_failure, first_or}
-use Rattle.cmd_campaign.proofs.BlockLemmas.{at_start, block_length, endings_none, fewer, goes_on, halts_between, halts_in_block, room, seeds_all, seeds_within, split, stops}
+use Rattle.cmd_campaign.proofs.BlockLemmas.{at_start, block_length, endings_none, fewer, goes_on, halts_between, halts_in_block, number_fits, room, seeds_all, seeds_within, split, stops}
 use Rattle.cmd_campaign.proofs.engine.run_blocks.Goals as goal
 
 pub blocks-2-init : goal.blocks-2-init
@@ -28,6 +28,14 @@ returns-in-Err-record_block-clause-begun g c =
     (split c.args.campaign c.args.image.now c.args.inputs.now _ _ _ _ c.in-Some.ensures.order
     (ap (map seed_ending) c.deref.ensures.value ∙ c.in-Ok.ensures)) c.blocks-2.invariant.0
     c.in-Err-record_block.ensures.begun
+
+pub overflow_add-done : goal.overflow_add-done
+overflow_add-done g c =
+    let ends = ap (map seed_ending) c.deref.ensures.value ∙ c.in-Ok.ensures in
+    let h = number_fits c.args.campaign c.args.image.now c.args.inputs.now _ _ _ _ _ _ _ _ _ c.blocks-2.invariant.0 c.see_count.ensures
+    _ c.in-Some.block.count (split c.args.campaign c.args.image.now c.args.inputs.now _ _ _ _ c.in-Some.ensures.order ends)
+    (block_length c.args.campaign c.args.image.now c.args.inputs.now _ _ _ ends) in
+    omega (arith, h)
 
 pub blocks-2-smaller : goal.blocks-2-smaller
 blocks-2-smaller g c = fewer c.in-Some.block.first c.in-Some.block.count _ _ c.in-Some.ensures.order c.in-Some.ensures.block.0
@@ -67,9 +75,9 @@ returns-clause-finished g c =
 
 pub returns-clause-seeds : goal.returns-clause-seeds
 returns-clause-seeds g c =
-    seeds_within c.args.campaign c.args.image.now c.args.inputs.now _ _ _ _ _ _ _ _ c.blocks-2.invariant.0 _ c.finished.ensures.seeds
+    seeds_within c.args.campaign c.args.image.now c.args.inputs.now _ _ _ _ _ _ _ _ c.blocks-2.invariant.0 c.finished.result c.finished.ensures.seeds
 
 pub returns-clause-all : goal.returns-clause-all
 returns-clause-all g c = λ never.
-    seeds_all c.args.campaign c.args.image.now c.args.inputs.now _ _ _ _ _ _ _ _ c.blocks-2.invariant.0 _ c.finished.ensures.seeds
+    seeds_all c.args.campaign c.args.image.now c.args.inputs.now _ _ _ _ _ _ _ _ c.blocks-2.invariant.0 c.finished.result c.finished.ensures.seeds
     (endings_none c.args.campaign c.args.image.now c.args.inputs.now _ (c.in_default.ensures.order (c.blocks-2.invariant.1.1 never)))

@@ -1,7 +1,7 @@
-use Rattle.std.proofs.Common.{◌+◌, map, refl, ap, sym, ◌∙◌}
+use Rattle.std.proofs.Common.{arith, ◌+◌, map, refl, ap, sym, ◌∙◌}
 use Rattle.campaign_runs.specs.Runs.{endings_of, seed_ending}
 use Rattle.cmd_campaign.proofs.BlockLemmas.{block_length, endings_none, fewer, split}
-use Rattle.cmd_campaign.proofs.UntilLemmas.{ended_without, first_of_failed, first_of_none, found_in_block, none_in_block, none_yet, seeds_within, told_of_first}
+use Rattle.cmd_campaign.proofs.UntilLemmas.{ended_without, first_of_failed, first_of_none, found_in_block, none_in_block, none_yet, number_fits, seeds_within, told_of_first}
 use Rattle.cmd_campaign.proofs.until.find_failure.Goals as goal
 
 pub blocks-2-init : goal.blocks-2-init
@@ -39,6 +39,13 @@ returns-in-Some-first_failing-clause-first g c = λ never.
     c.blocks-2.invariant.0 _ c.in-Some-first_failing.ensures in
     first_of_failed c.args.campaign.expect.exit c.args.campaign c.args.image.now c.args.inputs.now c.args.campaign.form _ _ _ _
     c.in_ok-answer.ensures h.done _ h.order h.counting h.found _ refl
+
+pub overflow_add-done : goal.overflow_add-done
+overflow_add-done g c =
+    let h = number_fits c.args.campaign.expect.exit c.args.campaign c.args.image.now c.args.inputs.now _ _ _ _ c.in-Some.block.count
+    c.blocks-2.invariant.0 (split c.args.campaign c.args.image.now c.args.inputs.now _ _ _ _ c.in-Some.ensures.order c.in_ok-ends.ensures)
+    (block_length c.args.campaign c.args.image.now c.args.inputs.now _ _ _ c.in_ok-ends.ensures) c.see_count.ensures in
+    omega (arith, h)
 
 pub blocks-2-smaller : goal.blocks-2-smaller
 blocks-2-smaller g c = fewer c.in-Some.block.first c.in-Some.block.count _ _ c.in-Some.ensures.order c.in-Some.ensures.block.0
