@@ -149,8 +149,8 @@ module _ (campaign : BoundedCampaign) (start : World) (inputs : List ℕ) where
     pub none_is_left : {Z : Type 0} (new : List Led) (next : Option (SeedEnd Z)) → next ≡ None
         → GivesEnd campaign start inputs (campaign.first + done) next rest new
         → FindsFirst campaign start inputs all done None new
-    none_is_left new next is gives =
-        let given : GivesEnd campaign start inputs (campaign.first + done) None rest new
+    none_is_left {Z = Z} new next is gives =
+        let given : GivesEnd {Z = Z} campaign start inputs (campaign.first + done) None rest new
         = subst (λ o. GivesEnd campaign start inputs (campaign.first + done) o rest new) is gives in
         subst (FindsFirst campaign start inputs all done None) (given.0 ∙ sym given.1)
         (stopped (ap (take (campaign.count - done)) given.0 ∙ take_none (campaign.count - done)))

@@ -83,7 +83,8 @@ fn report_image<A: Allocator + Copy>(
     let start: Machine<FlatStore<A>, A> = Machine::start(alloc, image, inputs)?;
     let mut walk = walk_of(alloc, image, inputs, campaign)?;
     walk.skip(alloc, campaign.first)?;
-    report_range(alloc, &mut walk, &start, inputs, campaign, progress)
+    let answer = report_range(alloc, &mut walk, &start, inputs, campaign, progress)?;
+    Ok(answer)
 }
 
 /// `campaign --preemptions`: reads an ELF file to its end, and does the run over each schedule of a

@@ -140,7 +140,8 @@ fn until_of_image<A: Allocator + Copy>(
     let start: Machine<FlatStore<A>, A> = Machine::start(alloc, image, inputs)?;
     let mut walk = walk_of(alloc, image, inputs, campaign)?;
     walk.skip(alloc, campaign.first)?;
-    report_until(alloc, &mut walk, &start, inputs, campaign, progress)
+    let answer = report_until(alloc, &mut walk, &start, inputs, campaign, progress)?;
+    Ok(answer)
 }
 
 /// `campaign --preemptions --until-failure`: reads an ELF file to its end, and does the run over each
