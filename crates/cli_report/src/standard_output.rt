@@ -1,6 +1,6 @@
 //! Standard output, whose reader may go away before all is written, as in `rvcons trace .. | head`.
 
-ghost use Rattle.std.specs.Prelude.{◌≡◌, Err, IfErr, IfOk, None};
+ghost use Rattle.std.specs.Prelude.{◌≡◌, ◌≤◌, Err, IfErr, IfOk, None, length};
 
 use byte_io::{DeviceFault, Sink, Status};
 use program_open::{CommandFault, write_text};
@@ -35,6 +35,20 @@ impl<'a, R: Print> StandardOutput<'a, R> {
     }
 }
 
+// One write, repeated while it is interrupted.
+fn write_again<W: Write>(writer: &mut W, piece: &[u8]) -> Result<usize, ErrorKind>
+    ensures { IfOk result (λ n. n ≤ length piece.now) }
+{
+    'calls: for _ in 0..u64::MAX {
+        match writer.write(piece) {
+            Ok(count) => return Ok(count),
+            Err(error) if error.kind() == ErrorKind::Interrupted => {}
+            Err(error) => return Err(error.kind()),
+        }
+    }
+    Err(ErrorKind::Interrupted)
+}
+
 impl<'a, R: Print> Sink for StandardOutput<'a, R> {
     // What was printed before isn't known.
     ghost held = { λ _. None };
@@ -42,19 +56,18 @@ impl<'a, R: Print> Sink for StandardOutput<'a, R> {
     ghost failures = { λ s. s.failures };
 
     fn write(&mut self, piece: &[u8]) -> Result<usize, DeviceFault> {
-        'calls: for _ in 0..u64::MAX {
-            match self.writer.write(piece) {
-                Ok(0) if !piece.is_empty() => break,
-                Ok(count) => return Ok(count),
-                Err(error) if error.kind() == ErrorKind::Interrupted => {}
-                Err(error) => {
-                    self.has_reader = error.kind() != ErrorKind::BrokenPipe;
-                    break;
-                }
+        match write_again(&mut self.writer, piece) {
+            Ok(0) if !piece.is_empty() => {
+                self.failures += 1;
+                Err(DeviceFault)
+            }
+            Ok(count) => Ok(count),
+            Err(kind) => {
+                self.has_reader = kind != ErrorKind::BrokenPipe;
+                self.failures += 1;
+                Err(DeviceFault)
             }
         }
-        self.failures += 1;
-        Err(DeviceFault)
     }
 }
 
