@@ -147,13 +147,13 @@ fn last_stores(alloc: Global) -> Result<(u64, u64), AllocError> {
         return Ok((0, 0));
     };
     let start: Machine<FlatStore<Global>, Global> = Machine::start(alloc, &image, &inputs)?;
-    let (mut sevens, mut nines) = (0, 0);
+    let (mut sevens, mut nines) = (0u64, 0u64);
     for seed in 0..64 {
         let end = run_seed(alloc, &start, &inputs, STORED_ONCE.campaign(), seed)?;
         let results = " 0:a0=00000000 0:a1=00000007 1:a0=00000001 1:a1=00000009";
         match end.ending.words.as_str().strip_prefix(results) {
-            Some(" 00011000=00000007") => sevens += 1,
-            Some(" 00011000=00000009") => nines += 1,
+            Some(" 00011000=00000007") => sevens = sevens.saturating_add(1),
+            Some(" 00011000=00000009") => nines = nines.saturating_add(1),
             _ => {}
         }
     }
@@ -166,7 +166,7 @@ fn words_tell_equal_results_apart(rt: HostRuntime) {
         return;
     };
     assert!(rt;
-        sevens > 0 && nines > 0 && sevens + nines == 64,
+        sevens > 0 && nines > 0 && sevens.saturating_add(nines) == 64,
         "{sevens} and {nines}"
     );
 }

@@ -48,7 +48,7 @@ fn inputs_are_read(rt: HostRuntime) {
 // Lines, and what is read of each: its command and the texts of its arguments, by their names. No
 // proof goes over a table of all of them.
 #[rattlefmt::skip]
-static LINES: [(&str, &str); 65] = [
+static LINES: [(&str, &str); 67] = [
     ("rvcons asm a.s", "asm IN=a.s"),
     ("rvcons asm --out o a.s b.s", "asm out=o IN=a.s IN=b.s"),
     ("rvcons asm b.s a.s --out=o", "asm out=o IN=b.s IN=a.s"),
