@@ -25,7 +25,7 @@ use Rattle.cmd_explore.specs.declared.finding.Finding.TheVariants as finding
 use Rattle.cmd_form.specs.declared.form.Form.{Form}
 use Rattle.cmd_explore.specs.Explore.{failing_status, list_shown, section_broken, word_broken, IsExplored, TellsHeld}
 use Rattle.cmd_explore.proofs.KeepLemmas.{keeps_all, keeps_before}
-use Rattle.explore_laws.specs.declared.section.Section.{Section}
+use Rattle.explore_space.specs.declared.section.Section.{Section}
 
 -- ---- the harts of meant choices
 shifted : (c x : Choice) (xs ys : List Choice) → Contains xs x ⊎ Contains ys x → Contains (c ∷ xs) x ⊎ Contains ys x

@@ -17,7 +17,7 @@ use Rattle.property_judge.specs.Property.{holds_in}
 use Rattle.property_judge.specs.declared.property.Property.{Property}
 use Rattle.property_judge.specs.declared.property.Property.TheVariants as property
 use Rattle.explore_space.specs.Every.{IsListOf, run_fails}
-use Rattle.explore_laws.specs.declared.section.Section.{Section}
+use Rattle.explore_space.specs.declared.section.Section.{Section}
 use Rattle.explore_space.specs.Failing.{breaks_asked, breaks_section, breaks_word}
 use Rattle.explore_space.specs.declared.question.Always.{Always}
 use Rattle.cmd_explore.specs.Explore.{section_broken, word_broken, KeepsAll, KeepsBefore, KeepsBoth}

@@ -18,7 +18,7 @@ use Rattle.program_open.specs.declared.command_fault.CommandFault.TheVariants as
 use Rattle.outcome.specs.declared.expect.Exit.{Exit}
 use Rattle.outcome.specs.declared.expect.Exit.TheVariants.{May, Must}
 use Rattle.explore_bounds.specs.declared.bound.Bound.{Bound}
-use Rattle.explore_laws.specs.declared.section.Section.{Section}
+use Rattle.explore_space.specs.declared.section.Section.{Section}
 use Rattle.explore_space.specs.Bounds.{TellsBounds}
 use Rattle.explore_space.specs.Ends.{EndValue, ends_in}
 use Rattle.explore_space.specs.Every.{CountsPlaces, HoldsOfEvery, IsListOf, TellsEnds, TellsExits, meant_choices}

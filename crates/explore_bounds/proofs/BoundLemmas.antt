@@ -10,19 +10,25 @@ use Rattle.explore_table.proofs.ListLemmas.{get_there, at_contains}
 use Rattle.machine.specs.World.{World}
 use Rattle.machine.specs.declared.choice.Choice.{Choice}
 use Rattle.explore_laws.specs.Places.{Place, place_begun, place_after, place_reached}
-use Rattle.explore_laws.specs.OwnSteps.{steps_in_turn, steps_in_turns, HasPlainChoices, NumbersFall, GoesRound}
-use Rattle.explore_laws.specs.Bounds.{IsExactBound, HasNoBound}
-use Rattle.explore_laws.proofs.BoundLemmas.{numbers_bound}
+use Rattle.explore_laws.specs.OwnSteps.{steps_in_turn, steps_in_turns, HasPlainChoices, KeysAreClear, NumbersFall, GoesRound}
+use Rattle.explore_laws.specs.Bounds.{HasNoBound}
+use Rattle.explore_laws.proofs.BoundLemmas.{numbers_bound_behind}
 use Rattle.explore_laws.proofs.PathLemmas.{reached_joined, steps_last}
 use Rattle.explore_laws.proofs.RoundLemmas.{path_taken, round_unbounded}
-use Rattle.explore_laws.proofs.SettleLemmas.{get_set_other}
+use Rattle.explore_laws.proofs.ListLemmas.{get_set_other}
 use Rattle.explore_search.specs.Counted.{IsLedTo}
 use Rattle.explore_search.specs.Edges.{HaveEdges, IsNumberOf}
 use Rattle.explore_bounds.specs.Steps.{HaveSteps, AreLedTo}
 use Rattle.explore_bounds.specs.Rounds.{LeadsBy, GoRound}
 use Rattle.explore_bounds.specs.Numbers.{own_in, AllAtMost, HasPathOf, AreTaken, IsLimit, EndsRaising}
 use Rattle.explore_bounds.proofs.NumberLemmas.{contains_at, own_is, own_low, settled_fall}
-use Rattle.explore_laws.specs.declared.section.Section.{Section}
+use Rattle.machine.specs.Chosen.{own}
+use Rattle.explore_laws.specs.Covering.{WorldCovers}
+use Rattle.explore_laws.specs.Quiet.{AreAligned, CanWait, OfNextStep}
+use Rattle.explore_laws.specs.Settling.{Stride}
+use Rattle.explore_laws.proofs.QuietLemmas.{aligned_run}
+use Rattle.explore_bounds.specs.Steps.{TellsBound}
+use Rattle.explore_bounds.specs.declared.bound.Bound.TheVariants.{After}
 
 same_at : {X : Type 0} (xs : List X) (k : ℕ) (x y : X) → slice_get xs k ≡ Some x → slice_get xs k ≡ Some y → x ≡ y
 same_at xs k x y e f = cc
@@ -68,12 +74,12 @@ leads_none meant h p = record { turns = []; are_meant = All-nil (Contains meant)
 
 -- one turn more
 leads_more : (meant : List Choice) (h : ℕ) (p q : Place) (c : Choice) (n m : ℕ) → Contains meant c
-    → m ≤ n + steps_in_turn q.section q.world h c → LeadsBy meant h p q n → LeadsBy meant h p (place_after q c) m
+    → m ≤ n + steps_in_turn q.stride q.world h c → LeadsBy meant h p q n → LeadsBy meant h p (place_after q c) m
 unfolding place_reached
 leads_more meant h p q c n m is low on =
     let steps = steps_last p h on.turns c in
-    let same : steps_in_turn (place_reached p on.turns).section (place_reached p on.turns).world h c ≡ steps_in_turn q.section q.world h c
-    = ap (λ (x : Place). steps_in_turn x.section x.world h c) on.leads in
+    let same : steps_in_turn (place_reached p on.turns).stride (place_reached p on.turns).world h c ≡ steps_in_turn q.stride q.world h c
+    = ap (λ (x : Place). steps_in_turn x.stride x.world h c) on.leads in
     let many = on.many in
     record {
       turns = on.turns ++ c ∷ [];
@@ -86,7 +92,7 @@ leads_on : (meant : List Choice) (h : ℕ) (p q : Place) (c : Choice) → Contai
     → LeadsBy meant h p (place_after q c) 1
 leads_on meant h p q c is on = leads_more meant h p q c 1 1 is (omega arith) on
 
-leads_by : (meant : List Choice) (h : ℕ) (p : Place) (c : Choice) → Contains meant c → 0 < steps_in_turn p.section p.world h c
+leads_by : (meant : List Choice) (h : ℕ) (p : Place) (c : Choice) → Contains meant c → 0 < steps_in_turn p.stride p.world h c
     → LeadsBy meant h p (place_after p c) 1
 leads_by meant h p c is some = leads_more meant h p p c 0 1 is (omega (arith, some)) (leads_none meant h p)
 
@@ -112,7 +118,7 @@ along_more turns h rows steps k l n i s m c row own next row_is own_row c_is nex
     let edges = have.edges l key.0 row key.1 row_is in
     let at = edges.lead i next c next_is c_is in
     let steps_from = have_own.from l key.0 own key.1 own_row in
-    let same = own_is (place key.0).section (place key.0).world h s c (steps_from.are i s c s_is c_is) in
+    let same = own_is (place key.0).stride (place key.0).world h s c (steps_from.are i s c s_is c_is) in
     let to_is : at.key ≡ to = same_at keys next at.key to at.there f in
     subst (λ x. LeadsBy turns h (place from) (place x) m) to_is
     (subst (λ q. LeadsBy turns h (place from) q m) (sym at.is)
@@ -145,7 +151,7 @@ led_on meant first q c is led = record {
 module _ (meant : List Choice) (h : ℕ) (first : Place) (place : List ℕ → Place) (keys rows steps : List (List ℕ)) (u : ℕ)
     (have : HaveEdges place meant keys rows) (own : HaveSteps place meant keys steps) (most : AllAtMost u steps) where
   turn_low : (k : ℕ) (key : List ℕ) (c : Choice) → slice_get keys k ≡ Some key → Contains meant c
-      → steps_in_turn (place key).section (place key).world h c ≤ u
+      → steps_in_turn (place key).stride (place key).world h c ≤ u
   turn_low k key c there meant_c =
       let within = slice_get_within keys k key there in
       let own_count = own.count in
@@ -155,7 +161,7 @@ module _ (meant : List Choice) (h : ℕ) (first : Place) (place : List ℕ → P
       let from = own.from k key row.0 there row.1 in
       let wide = from.count in
       let s = get_there row.0 i.0 (omega (arith, i_in, wide)) in
-      let same = own_is (place key).section (place key).world h s.0 c (from.are i.0 s.0 c s.1 i.1) in
+      let same = own_is (place key).stride (place key).world h s.0 c (from.are i.0 s.0 c s.1 i.1) in
       let low = own_low c.hart h s.0 in
       let top = most k i.0 s.0 row.0 row.1 s.1 in
       omega (arith, same, low, top)
@@ -179,7 +185,7 @@ module _ (meant : List Choice) (h : ℕ) (first : Place) (place : List ℕ → P
 
   goes : (turns : List Choice) (k : ℕ) (key : List ℕ) (marks : List Bool) → slice_get keys k ≡ Some key
       → IsLedTo meant first (place key) → length marks ≡ length keys → Came marks (place key) → All (Contains meant) turns
-      → left u marks < steps_in_turns (place key).section (place key).world h turns → GoesRound meant h first
+      → left u marks < steps_in_turns (place key).stride (place key).world h turns → GoesRound meant h first
   unfolding steps_in_turns
   goes [] k key marks there led even came all many = absurd (omega (arith, many))
   goes (c ∷ turns) k key marks there led even came all many =
@@ -191,10 +197,10 @@ module _ (meant : List Choice) (h : ℕ) (first : Place) (place : List ℕ → P
       let low = turn_low k key c there meant_c in
       let within = slice_get_within keys k key there in
       let mark = get_there marks k (omega (arith, within, even)) in
-      elim (cases_lt 0 (steps_in_turn (place key).section (place key).world h c)) [
+      elim (cases_lt 0 (steps_in_turn (place key).stride (place key).world h c)) [
         | inr none ↦ goes turns next.0 at.key marks at.there led_next even
             (λ j x e f. subst (λ q. LeadsBy meant h (place x) q 1) (sym at.is) (leads_on meant h (place x) (place key) c meant_c (came j x e f)))
-            rest (subst (λ (q : Place). left u marks < steps_in_turns q.section q.world h turns) (sym at.is) (omega (arith, many, none)))
+            rest (subst (λ (q : Place). left u marks < steps_in_turns q.stride q.world h turns) (sym at.is) (omega (arith, many, none)))
         | inl some ↦ elim (cases_Bool mark.0) [
           | inl yes_ ↦
               let round = came k key there (mark.1 ∙ ap Some yes_) in
@@ -219,7 +225,7 @@ module _ (meant : List Choice) (h : ℕ) (first : Place) (place : List ℕ → P
                     (came j x e (sym (get_set_other marks k j true other) ∙ f))
               ]))
               rest
-              (subst (λ (q : Place). left u (set marks k true) < steps_in_turns q.section q.world h turns) (sym at.is)
+              (subst (λ (q : Place). left u (set marks k true) < steps_in_turns q.stride q.world h turns) (sym at.is)
               (omega (arith, many, fewer, low)))
         ]
       ]
@@ -235,48 +241,50 @@ module _ (meant : List Choice) (h : ℕ) (first : Place) (place : List ℕ → P
       (λ j x e f. absurd (not_unmarked (length steps) j f)) of.path.are_meant (omega (arith, enough, is, all, low, over))
 
 -- ---- bounds
-pub exact_from : (section : Option Section) (meant : List Choice) (first : World) (h : ℕ) (place : List ℕ → Place) (keys rows steps : List (List ℕ))
-    (numbers : List ℕ) (limit b : ℕ) → HasPlainChoices meant → Contains meant (record { hart = h; refuse = false })
-    → AreLedTo meant (place_begun section first) place keys → HaveEdges place meant keys rows → HaveSteps place meant keys steps
-    → length numbers ≡ length rows → IsLimit steps limit → EndsRaising meant h rows steps limit numbers true
-    → AreTaken meant h place keys numbers → slice_get numbers 0 ≡ Some b → IsExactBound meant first h b
-exact_from section meant first h place keys rows steps numbers limit b plain meant_h led have own even is_limit ends taken b_is =
-    let falls : NumbersFall meant h place keys numbers
-    = settled_fall meant h place keys rows steps numbers limit have own even ends.0 ends.1 is_limit.3 in
-    let of : HasPathOf meant h (place_begun section first) b
-    = subst (λ (p : Place). HasPathOf meant h p b) led.is_first (taken 0 led.first_key b led.at_first b_is) in
-    let enough = of.enough in
-    record {
-      bound = numbers_bound section meant first h b place keys numbers meant_h falls
-          (record { index = 0; key = led.first_key; there = led.at_first; is = led.is_first; number_is = b_is });
-      least = λ n less. path_taken meant plain section first h of.steps n of.path (omega (arith, less, enough));
-    }
+module _ (quiet clear : OfNextStep) (stride : Stride) (waits : CanWait quiet clear stride) (first w : World) (aligned : AreAligned w)
+    (covers : WorldCovers quiet first w) (meant : List Choice) (h : ℕ) (place : List ℕ → Place) (keys rows steps : List (List ℕ))
+    (numbers : List ℕ) (limit : ℕ) (plain : HasPlainChoices meant) where
+  aligned_first : AreAligned first
+  aligned_first = subst AreAligned covers.leads (aligned_run w covers.choices aligned)
 
-pub none_from : (section : Option Section) (meant : List Choice) (first : World) (h : ℕ) (place : List ℕ → Place) (keys rows steps : List (List ℕ))
-    (numbers : List ℕ) (limit : ℕ) → HasPlainChoices meant
-    → AreLedTo meant (place_begun section first) place keys → HaveEdges place meant keys rows → HaveSteps place meant keys steps
-    → length numbers ≡ length rows → IsLimit steps limit → EndsRaising meant h rows steps limit numbers false
-    → AreTaken meant h place keys numbers → HasNoBound meant first h
-none_from section meant first h place keys rows steps numbers limit plain led have own even is_limit ends taken = elim ends [
-  | inl over ↦
-      let within = slice_get_within numbers over.0 over.1 over.2 in
-      let count = have.count in
-      let key = get_there keys over.0 (omega (arith, within, even, count)) in
-      round_unbounded meant plain section first h
-      (many_go_round meant h (place_begun section first) place keys rows steps is_limit.0 have own is_limit.1 over.0 key.0 over.1 limit key.1
-      (led.led_to over.0 key.0 key.1) (taken over.0 key.0 over.1 key.1 over.2) is_limit.2 over.3)
-  | inr rounds ↦
-      let found = rounds place keys have own in
-      let led_there = led.led_to found.number found.key found.there in
-      let round = found.round in
-      round_unbounded meant plain section first h (record {
-        place = place found.key;
-        there = led_there.list;
-        there_meant = led_there.meant;
-        leads = led_there.leads;
-        round = round.turns;
-        round_meant = round.are_meant;
-        back = ap (λ (q : Place). q.world) round.leads;
-        steps = (let many = round.many in omega (arith, many));
-      })
-]
+  pub exact_from : (b : ℕ) → Contains meant (record { hart = h; refuse = false }) → KeysAreClear clear meant place keys
+      → AreLedTo meant (place_begun stride first) place keys → HaveEdges place meant keys rows → HaveSteps place meant keys steps
+      → length numbers ≡ length rows → IsLimit steps limit → EndsRaising meant h rows steps limit numbers true
+      → AreTaken meant h place keys numbers → slice_get numbers 0 ≡ Some b
+      → TellsBound meant first w (own covers.choices h) h (After b)
+  exact_from b meant_h are_clear led have own_ even is_limit ends taken b_is =
+      let falls : NumbersFall meant h place keys numbers
+      = settled_fall meant h place keys rows steps numbers limit have own_ even ends.0 ends.1 is_limit.3 in
+      let of : HasPathOf meant h (place_begun stride first) b
+      = subst (λ (p : Place). HasPathOf meant h p b) led.is_first (taken 0 led.first_key b led.at_first b_is) in
+      let enough = of.enough in
+      (numbers_bound_behind quiet clear stride waits meant h place keys numbers are_clear falls first w b aligned meant_h covers
+      (record { index = 0; key = led.first_key; there = led.at_first; is = led.is_first; number_is = b_is }),
+      λ n less. path_taken quiet clear stride waits meant plain first h of.steps n aligned_first of.path (omega (arith, less, enough)))
+
+  pub none_from : AreLedTo meant (place_begun stride first) place keys → HaveEdges place meant keys rows → HaveSteps place meant keys steps
+      → length numbers ≡ length rows → IsLimit steps limit → EndsRaising meant h rows steps limit numbers false
+      → AreTaken meant h place keys numbers → HasNoBound meant first h
+  none_from led have own_ even is_limit ends taken = elim ends [
+    | inl over ↦
+        let within = slice_get_within numbers over.0 over.1 over.2 in
+        let count = have.count in
+        let key = get_there keys over.0 (omega (arith, within, even, count)) in
+        round_unbounded quiet clear stride waits meant plain first h aligned_first
+        (many_go_round meant h (place_begun stride first) place keys rows steps is_limit.0 have own_ is_limit.1 over.0 key.0 over.1 limit key.1
+        (led.led_to over.0 key.0 key.1) (taken over.0 key.0 over.1 key.1 over.2) is_limit.2 over.3)
+    | inr rounds ↦
+        let found = rounds place keys have own_ in
+        let led_there = led.led_to found.number found.key found.there in
+        let round = found.round in
+        round_unbounded quiet clear stride waits meant plain first h aligned_first (record {
+          place = place found.key;
+          there = led_there.list;
+          there_meant = led_there.meant;
+          leads = led_there.leads;
+          round = round.turns;
+          round_meant = round.are_meant;
+          back = ap (λ (q : Place). q.world) round.leads;
+          steps = (let many = round.many in omega (arith, many));
+        })
+  ]

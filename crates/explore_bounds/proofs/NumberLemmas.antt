@@ -9,10 +9,10 @@ use Rattle.machine.specs.World.{World}
 use Rattle.machine.specs.declared.choice.Choice.{Choice}
 use Rattle.explore_laws.specs.Places.{Place, place_after}
 use Rattle.explore_laws.specs.OwnSteps.{steps_in_turn, NumbersFall}
-use Rattle.explore_laws.specs.declared.section.Section.{Section}
+use Rattle.explore_laws.specs.Settling.{Stride}
 use Rattle.explore_laws.proofs.OwnLemmas.{other_steps}
 use Rattle.explore_laws.proofs.PathLemmas.{path_none, path_more}
-use Rattle.explore_laws.proofs.SettleLemmas.{there_set, get_set_other}
+use Rattle.explore_laws.proofs.ListLemmas.{there_set, get_set_other}
 use Rattle.explore_search.specs.Edges.{HaveEdges, Lead}
 use Rattle.explore_search.proofs.SearchLemmas.{below_or}
 use Rattle.explore_bounds.specs.Steps.{AreStepsFrom, HaveSteps}
@@ -25,11 +25,11 @@ pub contains_at : {X : Type 0} (xs : List X) (k : ℕ) (x : X) → slice_get xs 
 contains_at xs k x e = (k, slice_get_within xs k x e, get_or_from_slice_get xs k x x e)
 
 -- ---- a hart's own steps in a turn
-pub own_is : (section : Option Section) (w : World) (h s : ℕ) (c : Choice) → s ≡ steps_in_turn section w c.hart c
-    → own_in c.hart h s ≡ steps_in_turn section w h c
-own_is section w h s c is = elim (cases_eq c.hart h) [
-  | inl same ↦ ap (λ (b : Bool). if b then s else 0) (eq-eqb c.hart h same) ∙ is ∙ ap (λ k. steps_in_turn section w k c) same
-  | inr other ↦ ap (λ (b : Bool). if b then s else 0) (ne_eqb c.hart h other) ∙ sym (other_steps section w h c other)
+pub own_is : (stride : Stride) (w : World) (h s : ℕ) (c : Choice) → s ≡ steps_in_turn stride w c.hart c
+    → own_in c.hart h s ≡ steps_in_turn stride w h c
+own_is stride w h s c is = elim (cases_eq c.hart h) [
+  | inl same ↦ ap (λ (b : Bool). if b then s else 0) (eq-eqb c.hart h same) ∙ is ∙ ap (λ k. steps_in_turn stride w k c) same
+  | inr other ↦ ap (λ (b : Bool). if b then s else 0) (ne_eqb c.hart h other) ∙ sym (other_steps stride w h c other)
 ]
 
 pub own_low : (hart h s : ℕ) → own_in hart h s ≤ s
@@ -60,12 +60,12 @@ room_less top (x ∷ numbers) (suc k) n m e less fits =
 -- ---- paths
 -- a turn before a path
 pub path_raised : (meant : List Choice) (h : ℕ) (p : Place) (c : Choice) (s t m : ℕ) → Contains meant c
-    → s ≡ steps_in_turn p.section p.world c.hart c → m ≤ own_in c.hart h s + t → HasPathOf meant h (place_after p c) t → HasPathOf meant h p m
+    → s ≡ steps_in_turn p.stride p.world c.hart c → m ≤ own_in c.hart h s + t → HasPathOf meant h (place_after p c) t → HasPathOf meant h p m
 path_raised meant h p c s t m is own low of =
-    let same = own_is p.section p.world h s c own in
+    let same = own_is p.stride p.world h s c own in
     let enough = of.enough in
     record {
-      steps = steps_in_turn p.section p.world h c + of.steps;
+      steps = steps_in_turn p.stride p.world h c + of.steps;
       path = path_more meant h p c of.steps is of.path;
       enough = omega (arith, same, enough, low);
     }
@@ -243,7 +243,7 @@ settled_fall meant h place keys rows steps numbers limit have own even settled u
     let low = settled k row.0 steps_row.0 (omega arith) row.1 steps_row.1 i.0 to.0 s.0 t.0 n c (omega (arith, i_in, wide)) i.1 to.1 s.1 t.1
     number_is in
     let whole = min_whole (own_in c.hart h s.0 + t.0) (2 ^ 64 - 1) n limit low (under k n number_is) inside in
-    let same = own_is (place key).section (place key).world h s.0 c (steps_from.are i.0 s.0 c s.1 i.1) in (
+    let same = own_is (place key).stride (place key).world h s.0 c (steps_from.are i.0 s.0 c s.1 i.1) in (
       t.0,
       record { index = to.0; key = at.key; there = at.there; is = at.is; number_is = t.1 },
       subst (λ x. x + t.0 ≤ n) same whole,

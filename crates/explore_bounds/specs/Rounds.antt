@@ -12,7 +12,7 @@ pub record LeadsBy (meant : List Choice) (h : ℕ) (p q : Place) (n : ℕ) : Typ
   pub turns : List Choice
   pub are_meant : All (Contains meant) turns
   pub leads : place_reached p turns ≡ q
-  pub many : n ≤ steps_in_turns p.section p.world h turns
+  pub many : n ≤ steps_in_turns p.stride p.world h turns
 
 -- meant turns lead from some key's place back to it, and hart h steps in them
 pub record HasRound (meant : List Choice) (h : ℕ) (place : List ℕ → Place) (keys : List (List ℕ)) : Type 0 where

@@ -3,8 +3,11 @@ ghost use Rattle.std.specs.Prelude.{◌≡◌, ℕ, ◌<◌, false, List, Option
 ghost use Rattle.std.specs.List.{Contains};
 ghost use Rattle.machine.specs.World.{World};
 ghost use Rattle.explore_laws.specs.Places.{Place, place_begun};
-ghost use Rattle.explore_laws.specs.OwnSteps.{HasPlainChoices};
-ghost use Rattle.explore_laws.specs.declared.section.Section.{Section};
+ghost use Rattle.explore_laws.specs.OwnSteps.{HasPlainChoices, KeysAreClear};
+ghost use Rattle.machine.specs.Chosen.{own};
+ghost use Rattle.explore_laws.specs.Covering.{WorldCovers};
+ghost use Rattle.explore_laws.specs.Quiet.{AreAligned, CanWait, OfNextStep};
+ghost use Rattle.explore_laws.specs.Settling.{Stride};
 ghost use Rattle.explore_search.specs.Edges.{HaveEdges};
 ghost use Rattle.explore_search.specs.Marked.{AllBelow};
 ghost use Rattle.explore_bounds.specs.Numbers.{AreTaken, AreWide, EndsRaising, IsLimit};
@@ -105,10 +108,13 @@ fn bound_from<A: Allocator>(
     requires via { length via.old ≡ length rows.now }
     requires limit { IsLimit steps.now limit }
     requires none { (k n : ℕ) → slice_get numbers.old k ≡ Some n → n ≡ 0 }
-    ensures { (section : Option Section) (first : World) (place : List ℕ → Place) (keys : List (List ℕ)) → HasPlainChoices turns.now
-        → Contains turns.now (record { hart = hart; refuse = false })
-        → AreLedTo turns.now (place_begun section first) place keys → HaveEdges place turns.now keys rows.now
-        → HaveSteps place turns.now keys steps.now → TellsBound turns.now first hart result }
+    ensures { (quiet clear : OfNextStep) (stride : Stride) → CanWait quiet clear stride
+        → (first w : World) → AreAligned w → (covers : WorldCovers quiet first w)
+        → (place : List ℕ → Place) (keys : List (List ℕ)) → HasPlainChoices turns.now
+        → Contains turns.now (record { hart = hart; refuse = false }) → KeysAreClear clear turns.now place keys
+        → AreLedTo turns.now (place_begun stride first) place keys → HaveEdges place turns.now keys rows.now
+        → HaveSteps place turns.now keys steps.now
+        → TellsBound turns.now first w (own covers.choices hart) hart result }
 {
     if raise_all(turns, hart, rows, steps, limit, numbers, via) {
         Bound::After(numbers[0])
@@ -133,10 +139,13 @@ pub fn own_bound<A: Allocator + Copy>(
     requires steps { AreWide (length turns.now) steps.now }
     requires below { AllBelow (length rows.now) rows.now }
     requires even { length steps.now ≡ length rows.now }
-    ensures { IfOk result (λ bound. (section : Option Section) (first : World) (place : List ℕ → Place) (keys : List (List ℕ)) → HasPlainChoices turns.now
-        → Contains turns.now (record { hart = hart; refuse = false })
-        → AreLedTo turns.now (place_begun section first) place keys → HaveEdges place turns.now keys rows.now
-        → HaveSteps place turns.now keys steps.now → TellsBound turns.now first hart bound) }
+    ensures { IfOk result (λ bound. (quiet clear : OfNextStep) (stride : Stride) → CanWait quiet clear stride
+        → (first w : World) → AreAligned w → (covers : WorldCovers quiet first w)
+        → (place : List ℕ → Place) (keys : List (List ℕ)) → HasPlainChoices turns.now
+        → Contains turns.now (record { hart = hart; refuse = false }) → KeysAreClear clear turns.now place keys
+        → AreLedTo turns.now (place_begun stride first) place keys → HaveEdges place turns.now keys rows.now
+        → HaveSteps place turns.now keys steps.now
+        → TellsBound turns.now first w (own covers.choices hart) hart bound) }
 {
     let Some(limit) = limit_of(steps) else {
         return Err(AllocError);

@@ -1,12 +1,11 @@
-pub mod OutsideLemmas
+pub mod CountLemmas
+pub mod ListLemmas
 pub mod PlaceLemmas
-pub mod SettleLemmas
+pub mod StopLemmas
+pub mod QuietLemmas
 pub mod CoverLemmas
-pub mod SectionLemmas
 pub mod TurnLemmas
 pub mod WayLemmas
-pub mod StopLemmas
-pub mod BehindLemmas
 pub mod OwnLemmas
 pub mod BoundLemmas
 pub mod RoundLemmas

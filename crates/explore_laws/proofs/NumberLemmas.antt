@@ -20,7 +20,7 @@ module _ (place later : List ℕ → Place) (keys : List (List ℕ)) (numbers : 
   falls_stay meant h falls k key n c there number_is meant_c =
       let fall = falls k key n c there number_is meant_c in
       subst
-      (λ (p : Place). (m : ℕ) × IsNumbered later keys numbers (place_after p c) m × (steps_in_turn p.section p.world h c + m ≤ n))
+      (λ (p : Place). (m : ℕ) × IsNumbered later keys numbers (place_after p c) m × (steps_in_turn p.stride p.world h c + m ≤ n))
       (sym (stays k key there))
       (fall.0, numbered_stays (place_after (place key) c) fall.0 fall.1, fall.2)
 

@@ -12,7 +12,7 @@ use Rattle.hart_step.specs.declared.hart.HartState.TheVariants.{Running, Exited,
 use Rattle.machine.specs.World.{World, placed, step_of, step, run}
 use Rattle.machine.specs.declared.choice.Choice.{Choice}
 use Rattle.explore_laws.specs.Bounds.{not_stopped, still_runs, runs_in}
-use Rattle.explore_laws.proofs.SettleLemmas.{get_set_other}
+use Rattle.explore_laws.proofs.ListLemmas.{get_set_other}
 
 -- ---- one step
 state_stopped : (state : HartState) (s : Site) (h : ℕ) (refuse : Bool) → not_stopped state ≡ false → by_state state s h refuse ≡ s

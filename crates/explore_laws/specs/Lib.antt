@@ -1,4 +1,5 @@
 pub mod Settling
+pub mod Quiet
 pub mod Places
 pub mod Safe
 pub mod Covering

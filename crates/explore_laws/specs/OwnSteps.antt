@@ -1,24 +1,23 @@
 -- The steps that a hart takes in turns, and what bounds them.
-use Rattle.std.specs.Prelude.{◌≡◌, ℕ, ◌+◌, ◌<◌, ◌≤◌, ◌==◌, ◌&&◌, false, if◌then◌else◌, List, [], ◌∷◌, Option, Some, slice_get}
+use Rattle.std.specs.Prelude.{◌≡◌, ℕ, ◌+◌, ◌<◌, ◌≤◌, ◌==◌, ◌&&◌, true, false, if◌then◌else◌, List, [], ◌∷◌, Option, Some, slice_get}
 use Rattle.std.specs.List.{All, Contains}
 use Rattle.machine.specs.World.{World, step}
 use Rattle.machine.specs.declared.choice.Choice.{Choice}
-use Rattle.explore_laws.specs.Settling.{world_settled, settling_steps}
+use Rattle.explore_laws.specs.Quiet.{OfNextStep}
+use Rattle.explore_laws.specs.Settling.{Stride, world_settled}
 use Rattle.explore_laws.specs.Places.{Place, place_after, place_reached}
 use Rattle.explore_laws.specs.Bounds.{runs_in}
-use Rattle.explore_laws.specs.declared.section.Section.{Section}
 
 -- the steps of hart h in a turn: where the turn is its own and it runs, the step that is chosen and
--- the local steps behind it
-abbrev pub steps_in_turn : Option Section → World → ℕ → Choice → ℕ
-steps_in_turn section w h c =
-    if c.hart == h && runs_in w h then 1 + settling_steps section (step w c) (slice_get (step w c).harts c.hart) else 0
+-- those that it takes at once behind it
+abbrev pub steps_in_turn : Stride → World → ℕ → Choice → ℕ
+steps_in_turn stride w h c = if c.hart == h && runs_in w h then 1 + stride (step w c) c.hart else 0
 
 -- its steps in turns, one after another
-unfoldable pub steps_in_turns : Option Section → World → ℕ → List Choice → ℕ
-steps_in_turns section w h [] = 0
-steps_in_turns section w h (c ∷ turns) =
-    steps_in_turn section w h c + steps_in_turns section (world_settled section (step w c) c.hart) h turns
+unfoldable pub steps_in_turns : Stride → World → ℕ → List Choice → ℕ
+steps_in_turns stride w h [] = 0
+steps_in_turns stride w h (c ∷ turns) =
+    steps_in_turn stride w h c + steps_in_turns stride (world_settled stride (step w c) c.hart) h turns
 
 -- each hart that may be chosen may be chosen without a refusal
 abbrev pub HasPlainChoices : List Choice → Type 0
@@ -39,13 +38,18 @@ NumbersFall meant h place keys numbers =
     (k : ℕ) (key : List ℕ) (n : ℕ) (c : Choice) → slice_get keys k ≡ Some key → slice_get numbers k ≡ Some n
     → Contains meant c
     → (m : ℕ) × IsNumbered place keys numbers (place_after (place key) c) m
-    × (steps_in_turn (place key).section (place key).world h c + m ≤ n)
+    × (steps_in_turn (place key).stride (place key).world h c + m ≤ n)
+
+-- at each key's place the next step of each hart that may be chosen is clear
+abbrev pub KeysAreClear : OfNextStep → List Choice → (List ℕ → Place) → List (List ℕ) → Type 0
+KeysAreClear clear meant place keys =
+    (k : ℕ) (key : List ℕ) (c : Choice) → slice_get keys k ≡ Some key → Contains meant c → clear (place key).world c.hart ≡ true
 
 -- meant turns from a place in which hart h takes n steps
 pub record HasPath (meant : List Choice) (h : ℕ) (p : Place) (n : ℕ) : Type 0 where
   pub turns : List Choice
   pub are_meant : All (Contains meant) turns
-  pub steps : steps_in_turns p.section p.world h turns ≡ n
+  pub steps : steps_in_turns p.stride p.world h turns ≡ n
 
 -- each key's place has a path with as many steps as its number says
 abbrev pub NumbersAreTaken : List Choice → ℕ → (List ℕ → Place) → List (List ℕ) → List ℕ → Type 0
@@ -61,4 +65,4 @@ pub record GoesRound (meant : List Choice) (h : ℕ) (first : Place) : Type 0 wh
   pub round : List Choice
   pub round_meant : All (Contains meant) round
   pub back : (place_reached place round).world ≡ place.world
-  pub steps : 0 < steps_in_turns place.section place.world h round
+  pub steps : 0 < steps_in_turns place.stride place.world h round

@@ -9,7 +9,7 @@ use Rattle.explore_table.proofs.ListLemmas.{get_begun, get_behind, get_there, at
 use Rattle.machine.specs.declared.choice.Choice.{Choice}
 use Rattle.explore_laws.specs.Places.{Place, place_after, place_reached}
 use Rattle.explore_laws.specs.WaysOut.{HasWayOut, HaveWaysOut}
-use Rattle.explore_laws.proofs.SettleLemmas.{there_set, get_set_other}
+use Rattle.explore_laws.proofs.ListLemmas.{there_set, get_set_other}
 use Rattle.explore_search.specs.Edges.{HaveEdges}
 use Rattle.explore_search.specs.Searched.{IsSeen}
 use Rattle.explore_search.specs.Marked.{AreAllSeen, LeadsToStuck, IsMarked, LeadsToMarked, MarkEnded, HaveMarkedWaysOut, AreShut, MarksStay, marks_missing, MarksOne, MarksMore}

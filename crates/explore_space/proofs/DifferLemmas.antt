@@ -15,7 +15,7 @@ use Rattle.explore_sites.specs.Cells.{words_shown}
 use Rattle.explore_space.specs.Places.{hart_in, hart_numbered, cells_in, marks_in, place_of_key, AreUnlike, HartsDiffer, IsKey}
 use Rattle.explore_space.specs.declared.shared.Shared.{Shared}
 use Rattle.explore_space.proofs.KeyLemmas.{id_at, hart_at}
-use Rattle.explore_laws.specs.declared.section.Section.{Section}
+use Rattle.explore_space.specs.declared.section.Section.{Section}
 
 -- numbers are equal where neither order can be
 same_number : (a b : ℕ) → (a < b → ⊥) → (b < a → ⊥) → a ≡ b

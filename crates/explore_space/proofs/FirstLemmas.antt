@@ -23,7 +23,8 @@ use Rattle.explore_space.specs.Places.{hart_in, hart_numbered, cells_in, marks_i
 use Rattle.explore_space.specs.declared.shared.Shared.{Shared}
 use Rattle.explore_space.proofs.WorldLemmas.{memory_is}
 use Rattle.explore_space.proofs.KeyLemmas.{taken_at}
-use Rattle.explore_laws.specs.declared.section.Section.{Section}
+use Rattle.explore_space.specs.declared.section.Section.{Section}
+use Rattle.explore_space.specs.Resting.{stride_of}
 
 -- ---- the harts at the start
 -- register 10 of each hart is its number
@@ -121,13 +122,13 @@ module _ {Z : Type 0} (image : ImageValue) (inputs : List ℕ) (begin : List Har
       moved n k = omega arith
 
   first_place : (section : Option Section)
-      → place_of_key section image (length inputs) begin shareds row ≡ place_begun section (started image inputs)
+      → place_of_key section image (length inputs) begin shareds row ≡ place_begun (stride_of section) (started image inputs)
   first_place section =
       let chosen : (λ (k : ℕ). slice_index row (length inputs + 1 + k) == 1) ≡ (λ (k : ℕ). false) = λ i k. ap (λ v. v == 1) (flag_none k) i in
       ap (λ (x : World). place_of x (λ k. slice_index row (length inputs + 1 + k) == 1)) first_world ∙ ap (place_of (started image inputs)) chosen
     where
       place_of : World → (ℕ → Bool) → Place
-      place_of x y = record { section = section; world = x; chosen = y }
+      place_of x y = record { stride = stride_of section; world = x; chosen = y }
 
   first_key : IsKey image (length inputs) begin shareds row
   unfolding run values_over
@@ -149,5 +150,5 @@ module _ {Z : Type 0} (image : ImageValue) (inputs : List ℕ) (begin : List Har
   }
 
   pub first_is_key : (section : Option Section)
-      → IsKeyOf section image (length inputs) begin shareds row (place_begun section (started image inputs))
+      → IsKeyOf section image (length inputs) begin shareds row (place_begun (stride_of section) (started image inputs))
   first_is_key section = (first_key, first_place section)

@@ -29,7 +29,8 @@ use Rattle.explore_search.specs.Searched.{GoesOn}
 use Rattle.explore_space.specs.Places.{hart_in, hart_numbered, cells_in, marks_in, memory_over, world_of_key, place_of_key, PartsStep, IsKey, IsKeyOf, KeptOnce, KeysStay}
 use Rattle.explore_space.specs.declared.shared.Shared.{Shared}
 use Rattle.explore_space.proofs.WorldLemmas.{get_within, map_same, taken, memory_after, world_after, marked, unmarked, chosen_after}
-use Rattle.explore_laws.specs.declared.section.Section.{Section}
+use Rattle.explore_space.specs.Resting.{stride_of}
+use Rattle.explore_space.specs.declared.section.Section.{Section}
 
 pub longer_length : {X : Type 0} (xs ys : List X) → GoesOn xs ys → length xs ≤ length ys
 longer_length xs ys goes = let e = ap length goes.1 ∙ length-append xs goes.0 in omega (arith, e)
@@ -53,7 +54,7 @@ module _ {Z : Type 0} (image : ImageValue) (n : ℕ) (harts more_harts : List Ha
   world_by hs o = record { harts = hs; memory = memory_over (image_memory image) (words_shown image (cells_in o)); reserved = marks_in o }
 
   abbrev place_by : Option Section → World → Place
-  place_by section w = record { section = section; world = w; chosen = λ k. slice_index key (n + 1 + k) == 1 }
+  place_by section w = record { stride = stride_of section; world = w; chosen = λ k. slice_index key (n + 1 + k) == 1 }
 
   pub place_stays : (section : Option Section) → place_of_key section image n more_harts more_shareds key ≡ place_of_key section image n harts shareds key
   place_stays section = ap (λ hs. place_by section (world_by hs (slice_get more_shareds (slice_index key n)))) all_same
@@ -180,7 +181,7 @@ module _ {Z : Type 0} (image : ImageValue) (n : ℕ) (harts more_harts : List Ha
       ap (λ (x : World). place_of x (λ k. slice_index next (n + 1 + k) == 1)) next_world ∙ ap (place_of (step w c)) chosen
     where
       place_of : World → (ℕ → Bool) → Place
-      place_of x y = record { section = section; world = x; chosen = y }
+      place_of x y = record { stride = stride_of section; world = x; chosen = y }
 
   flags_then : (k : ℕ) → slice_index next (n + 1 + k) ≤ 1
   flags_then k = elim (cases_eq number k) [

@@ -1,3 +1,6 @@
+pub mod RestLemmas
+pub mod PastLemmas
+pub mod StandLemmas
 pub mod WorldLemmas
 pub mod KeyLemmas
 pub mod SettledKeys
@@ -11,7 +14,6 @@ pub mod MarkLemmas
 pub mod TurnLists
 pub mod PassLemmas
 pub mod BegunLemmas
-pub mod LagLemmas
 pub mod AheadLemmas
 pub mod WordBreaks
 pub mod StartLemmas

@@ -8,14 +8,14 @@ use Rattle.hart_step.specs.declared.hart.Hart.{Hart}
 use Rattle.hart_local.specs.CodeMemory.{code_in}
 use Rattle.machine.specs.declared.choice.Choice.{Choice}
 use Rattle.bank_laws.specs.Table.{table}
-use Rattle.explore_laws.specs.Settling.{at_once, rested}
 use Rattle.explore_search.specs.Searched.{GoesOn}
 use Rattle.explore_sites.specs.Cells.{words_shown}
 use Rattle.explore_space.specs.Memo.{AreRests, AreSteps, AreThere, HasAnswer, KeepsOne, step_words}
 use Rattle.explore_space.specs.Places.{cells_in, hart_in, hart_numbered, marks_in, PartsStep}
 use Rattle.explore_space.specs.declared.shared.Shared.{Shared}
 use Rattle.explore_space.proofs.KeyLemmas.{longer_get, longer_length, steps_moved}
-use Rattle.explore_laws.specs.declared.section.Section.{Section}
+use Rattle.explore_space.specs.declared.section.Section.{Section}
+use Rattle.explore_space.specs.Resting.{at_once, rested}
 
 -- ---- more parts are known
 module _ {Z : Type 0} (image : ImageValue) (harts more_harts : List Hart) (shareds more_shareds : List (Shared Z))

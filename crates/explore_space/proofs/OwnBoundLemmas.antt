@@ -16,13 +16,14 @@ use Rattle.explore_search.specs.Marked.{AllBelow, AreAllSeen}
 use Rattle.explore_search.specs.declared.seen.Link.{Link}
 use Rattle.explore_search.proofs.EdgeLemmas.{edges_below}
 use Rattle.explore_bounds.specs.Numbers.{AreWide}
-use Rattle.explore_bounds.specs.Steps.{AreLedTo, AreStepsFrom, HaveSteps, TellsBound}
+use Rattle.explore_bounds.specs.Steps.{AreLedTo, AreStepsFrom, HaveSteps}
 use Rattle.explore_bounds.specs.declared.bound.Bound.{Bound}
-use Rattle.explore_space.specs.Bounds.{AnswersBounds, MayAllStep}
+use Rattle.explore_space.specs.Bounds.{AnswersBounds, MayAllStep, TellsOwn}
 use Rattle.explore_space.specs.Every.{meant_choices}
 use Rattle.explore_space.specs.declared.meant.ScRefusals.{ScRefusals}
 use Rattle.explore_space.specs.declared.own_bounds.OwnBounds.{OwnBounds}
 use Rattle.explore_space.proofs.EveryLemmas.{in_range, plain_meant}
+use Rattle.explore_space.specs.Resting.{stride_of}
 
 same_at : {X : Type 0} (xs : List X) (k : ℕ) (x y : X) → slice_get xs k ≡ Some x → slice_get xs k ≡ Some y → x ≡ y
 same_at xs k x y e f = cc
@@ -33,20 +34,20 @@ contains_at xs k x e = (k, slice_get_within xs k x e, get_or_from_slice_get xs k
 -- ---- a row of steps
 -- the numbers of a row are those of the turns so far
 abbrev pub AreSteps : List Choice → Place → List ℕ → Type 0
-AreSteps turns p row = (i s : ℕ) (c : Choice) → slice_get row i ≡ Some s → slice_get turns i ≡ Some c → s ≡ steps_in_turn p.section p.world c.hart c
+AreSteps turns p row = (i s : ℕ) (c : Choice) → slice_get row i ≡ Some s → slice_get turns i ≡ Some c → s ≡ steps_in_turn (stride_of p.stride) p.world c.hart c
 
 pub steps_none : (turns : List Choice) (p : Place) (row : List ℕ) → row ≡ [] → AreSteps turns p row
 steps_none turns p row none i s c e f =
     absurd (let w = slice_get_within row i s e in let n = ap (λ (r : List ℕ). length r) none in omega (arith, w, n))
 
 pub steps_more : (turns : List Choice) (p : Place) (row more : List ℕ) (i s : ℕ) (c : Choice) → length row ≡ i → slice_get turns i ≡ Some c
-    → s ≡ steps_in_turn p.section p.world c.hart c → AreSteps turns p row → more ≡ row ++ s ∷ [] → AreSteps turns p more
+    → s ≡ steps_in_turn (stride_of p.stride) p.world c.hart c → AreSteps turns p row → more ≡ row ++ s ∷ [] → AreSteps turns p more
 steps_more turns p row more i s c count there is before pushed k x d e f =
     elim (get_either row s x k (ap (λ r. slice_get r k) (sym pushed) ∙ e)) [
       | inl old ↦ before k x d old f
       | inr new ↦
           let same : c ≡ d = same_at turns i c d there (ap (slice_get turns) (sym (new.0 ∙ count)) ∙ f) in
-          sym new.1 ∙ is ∙ ap (λ (y : Choice). steps_in_turn p.section p.world y.hart y) same
+          sym new.1 ∙ is ∙ ap (λ (y : Choice). steps_in_turn (stride_of p.stride) p.world y.hart y) same
     ]
 
 -- ---- rows of steps
@@ -113,18 +114,18 @@ below_edges place turns keys rows have k row e i to f =
 
 -- ---- bounds of harts
 abbrev pub AreTold : List Choice → World → List Bound → Type 0
-AreTold turns first bounds = (h : ℕ) (bound : Bound) → slice_get bounds h ≡ Some bound → TellsBound turns first h bound
+AreTold turns first bounds = (h : ℕ) (bound : Bound) → slice_get bounds h ≡ Some bound → TellsOwn turns first h bound
 
 pub told_none : (turns : List Choice) (first : World) (bounds : List Bound) → bounds ≡ [] → AreTold turns first bounds
 told_none turns first bounds none h bound e =
     absurd (let w = slice_get_within bounds h bound e in let n = ap (λ (bs : List Bound). length bs) none in omega (arith, w, n))
 
 pub told_more : (turns : List Choice) (first : World) (bounds more : List Bound) (h : ℕ) (bound : Bound) → length bounds ≡ h
-    → TellsBound turns first h bound → AreTold turns first bounds → more ≡ bounds ++ bound ∷ [] → AreTold turns first more
+    → TellsOwn turns first h bound → AreTold turns first bounds → more ≡ bounds ++ bound ∷ [] → AreTold turns first more
 told_more turns first bounds more h bound count tells before pushed k b e =
     elim (get_either bounds bound b k (ap (λ bs. slice_get bs k) (sym pushed) ∙ e)) [
       | inl old ↦ before k b old
-      | inr new ↦ subst (λ i. TellsBound turns first i b) (sym (new.0 ∙ count)) (subst (TellsBound turns first h) new.1 tells)
+      | inr new ↦ subst (λ i. TellsOwn turns first i b) (sym (new.0 ∙ count)) (subst (TellsOwn turns first h) new.1 tells)
     ]
 
 -- ---- the choices of harts

@@ -24,24 +24,24 @@ use Rattle.explore_sites.specs.Sites.{StepsTo}
 use Rattle.explore_sites.proofs.SiteLemmas.{machine_steps}
 use Rattle.explore_laws.specs.Bounds.{not_stopped, still_runs}
 use Rattle.explore_laws.specs.OwnSteps.{steps_in_turn}
-use Rattle.explore_laws.specs.Settling.{at_once, rest_steps, settling_steps}
-use Rattle.explore_laws.proofs.CoverLemmas.{step_code, step_is}
-use Rattle.explore_laws.proofs.OwnLemmas.{own_steps, stopped_steps}
-use Rattle.explore_laws.proofs.SettleLemmas.{there_set}
 use Rattle.explore_space.specs.Places.{hart_in, hart_numbered, cells_in, marks_in, world_of_key, IsKey, ShowsHart}
 use Rattle.explore_space.specs.declared.shared.Shared.{Shared}
 use Rattle.explore_space.proofs.KeyLemmas.{hart_at}
-use Rattle.explore_laws.specs.declared.section.Section.{Section}
+use Rattle.explore_space.specs.declared.section.Section.{Section}
+use Rattle.explore_laws.proofs.ListLemmas.{there_set}
+use Rattle.explore_laws.proofs.OwnLemmas.{own_steps, stopped_steps}
+use Rattle.explore_space.proofs.RestLemmas.{step_code, step_is}
+use Rattle.explore_space.specs.Resting.{at_once, rest_steps, resting_steps, stride_of}
 
 -- ---- a turn of a hart that is shown
 module _ {Z : Type 0} (section : Option Section) (image : ImageValue) (w : World) (c : Choice) (v : HartValue) (shared : Shared Z)
     (shows : ShowsHart image w c.hart v shared) where
-  pub none_stopped : not_stopped v.state ≡ false → 0 ≡ steps_in_turn section w c.hart c
-  none_stopped stopped = sym (stopped_steps section w c.hart c (ap still_runs shows.there ∙ stopped))
+  pub none_stopped : not_stopped v.state ≡ false → 0 ≡ steps_in_turn (stride_of section) w c.hart c
+  none_stopped stopped = sym (stopped_steps (stride_of section) w c.hart c (ap still_runs shows.there ∙ stopped))
 
   pub steps_running : (u : HartValue) (new_values : ℕ → WordBytes) (new_r : Marks) (count : ℕ) → v.state ≡ Running
       → StepsTo (table (image_memory image)) c.hart c.refuse v u (words_shown image shared.cells.items) new_values (mark_at shared.marks) new_r
-      → count ≡ rest_steps section (code_in (image_memory image)) at_once u → 1 + count ≡ steps_in_turn section w c.hart c
+      → count ≡ rest_steps section (code_in (image_memory image)) at_once u → 1 + count ≡ steps_in_turn (stride_of section) w c.hart c
   steps_running u new_values new_r count running steps count_is =
       let here : Site = site v w.memory w.reserved in
       let new : Site = stepped c.hart c.refuse here in
@@ -53,8 +53,8 @@ module _ {Z : Type 0} (section : Option Section) (image : ImageValue) (w : World
       ∙ ap Some (sym after.hart) in
       let code_is : code_in (image_memory image) ≡ code_in (step w c).memory
       = sym (code_kept (image_memory image) w.memory shows.keeps) ∙ sym (step_code w c) in
-      ap (λ n. 1 + n) (count_is ∙ ap (λ (m : Memory). rest_steps section m at_once u) code_is ∙ ap (settling_steps section (step w c)) (sym there))
-      ∙ sym (own_steps section w c.hart c refl (ap still_runs shows.there ∙ ap not_stopped running))
+      ap (λ n. 1 + n) (count_is ∙ ap (λ (m : Memory). rest_steps section m at_once u) code_is ∙ ap (resting_steps section (step w c)) (sym there))
+      ∙ sym (own_steps (stride_of section) w c.hart c refl (ap still_runs shows.there ∙ ap not_stopped running))
 
 -- ---- the harts of a key's world
 module _ {Z : Type 0} (image : ImageValue) (n : ℕ) (harts : List Hart) (shareds : List (Shared Z)) (key : List ℕ)
@@ -62,12 +62,12 @@ module _ {Z : Type 0} (image : ImageValue) (n : ℕ) (harts : List Hart) (shared
   abbrev w : World
   w = world_of_key image n harts shareds key
 
-  pub none_past : (section : Option Section) (c : Choice) → n ≤ c.hart → 0 ≡ steps_in_turn section w c.hart c
+  pub none_past : (section : Option Section) (c : Choice) → n ≤ c.hart → 0 ≡ steps_in_turn (stride_of section) w c.hart c
   none_past section c past =
       let len = is.len in
       let taken = length-take-le n key (omega (arith, len)) in
       let mapped = length-map (take n key) (hart_numbered harts) in
-      sym (stopped_steps section w c.hart c (ap still_runs (slice_get_past w.harts c.hart (omega (arith, past, taken, mapped)))))
+      sym (stopped_steps (stride_of section) w c.hart c (ap still_runs (slice_get_past w.harts c.hart (omega (arith, past, taken, mapped)))))
 
   pub key_shows : (number id shared_id : ℕ) (hart : Hart) (shared : Shared Z) → number < n → slice_index key number ≡ id
       → slice_index key n ≡ shared_id → slice_get harts id ≡ Some hart → slice_get shareds shared_id ≡ Some shared

@@ -1,15 +1,11 @@
 -- What fails in a run fails in the place that stands for it.
-use Rattle.std.proofs.Common.{◌≡◌, ℕ, zero, suc, ◌<◌, ◌==◌, ltb, eq-eqb, Bool, true, false, ◌||◌, List, [], ◌∷◌, length, get_or, cond, Option, Some, None, refl, ap, sym, ◌∙◌, subst, inl, inr, ◌⊎◌, arith}
+use Rattle.std.proofs.Common.{◌≡◌, ℕ, zero, suc, ◌<◌, ◌==◌, ltb, eq-eqb, Bool, true, false, ◌||◌, List, [], ◌∷◌, length, get_or, cond, Option, Some, None, refl, ap, sym, ◌∙◌, subst, inl, inr, ◌⊎◌, arith, true≢false}
 use Rattle.std.proofs.lemmas.Bool.{cases_Bool, cases_eq, or_right, ne_eqb, lt-ltb}
-use Rattle.std.proofs.lemmas.Option.{same_Some, slice_get-get_or}
-use Rattle.std.specs.List.{All, Contains}
-use Rattle.std.specs.Option.{is_some}
+use Rattle.std.proofs.lemmas.Option.{get_or_from_slice_get, slice_get-get_or}
+use Rattle.std.specs.List.{All, Contains, slice_get}
 use Rattle.hart_step.specs.Hart.{HartValue}
 use Rattle.hart_step.specs.declared.hart.HartState.{HartState}
 use Rattle.hart_step.specs.declared.hart.HartState.TheVariants.{Running, Exited, Faulted}
-use Rattle.mem_store.specs.Memory.{Memory}
-use Rattle.hart_local.specs.CodeMemory.{code_in}
-use Rattle.hart_local.specs.LocalStep.{is_local_next, local_in}
 use Rattle.machine.specs.Chosen.{is_chosen}
 use Rattle.machine.specs.World.{World}
 use Rattle.machine.specs.declared.choice.Choice.{Choice}
@@ -24,8 +20,15 @@ use Rattle.outcome.specs.Outcome.{counts, counted}
 use Rattle.outcome.specs.declared.run_outcome.End.TheVariants as end
 use Rattle.outcome.specs.Expect.{breaks, fails, judged}
 use Rattle.outcome.specs.declared.expect.Exit.TheVariants.{May}
-use Rattle.explore_laws.specs.Covering.{walk_outside, WalksTo, WorldCovers}
-use Rattle.explore_laws.specs.declared.section.Section.{Section}
+use Rattle.machine.specs.World.{step, run}
+use Rattle.machine.proofs.RunLaws.{run_length}
+use Rattle.explore_laws.specs.Bounds.{not_stopped, runs_in, still_runs}
+use Rattle.explore_laws.specs.Covering.{WorldCovers}
+use Rattle.explore_laws.specs.Quiet.{AreQuiet}
+use Rattle.explore_laws.proofs.StopLemmas.{other_step}
+use Rattle.explore_space.specs.Resting.{is_quiet}
+use Rattle.explore_space.specs.declared.section.Section.{Section}
+use Rattle.explore_space.proofs.RestLemmas.{section_waits}
 
 -- ---- harts that are chosen
 at_place : (c : Choice) (choices : List Choice) (k i : ℕ) → i < length (chosen (c ∷ choices)) → get_or (chosen (c ∷ choices)) i k ≡ k
@@ -45,41 +48,40 @@ chosen_there (c ∷ choices) k e = elim (cases_eq c.hart k) [
 ]
 
 -- ---- harts that have stopped
-pub stays_there : (section : Option Section) (code : Memory) (n : ℕ) (v u : HartValue) → walk_outside section code n v ≡ Some u
-    → is_local_next code v ≡ false → v ≡ u
-unfolding walk_outside
-stays_there section code zero v u e stopped = same_Some v u e
-stays_there section code (suc n) v u e stopped = absurd (let none : ◌≡◌ {A = Option HartValue} None (Some u) = rw stopped at e in cc)
+pub exited_stopped : (s : HartState) → is_exited s ≡ true → not_stopped s ≡ false
+exited_stopped Running e = absurd (cc)
+exited_stopped (Exited status) e = refl
+exited_stopped (Faulted cause) e = refl
 
-exited_stays : (code : Memory) (pc : ℕ) (s : HartState) → is_exited s ≡ true → is_some (local_in s code pc) ≡ false
-exited_stays code pc Running e = absurd (cc)
-exited_stays code pc (Exited status) e = refl
-exited_stays code pc (Faulted cause) e = refl
+pub faulted_stopped : (s : HartState) → is_faulted s ≡ true → not_stopped s ≡ false
+faulted_stopped Running e = absurd (cc)
+faulted_stopped (Exited status) e = refl
+faulted_stopped (Faulted cause) e = refl
 
-faulted_stays : (code : Memory) (pc : ℕ) (s : HartState) → is_faulted s ≡ true → is_some (local_in s code pc) ≡ false
-faulted_stays code pc Running e = absurd (cc)
-faulted_stays code pc (Exited status) e = refl
-faulted_stays code pc (Faulted cause) e = refl
+-- quiet steps are of harts that run
+stopped_stays : (section : Option Section) (w : World) (choices : List Choice) (h : ℕ) → AreQuiet (is_quiet section) w choices
+    → runs_in w h ≡ false → slice_get (run w choices).harts h ≡ slice_get w.harts h
+unfolding run
+stopped_stays section w [] h are stopped = refl
+stopped_stays section w (c ∷ choices) h are stopped =
+    let other : h ≡ c.hart → ⊥
+    = λ e. true≢false (sym ((section_waits section).runs w c.hart are.0) ∙ ap (runs_in w) (sym e) ∙ stopped) in
+    let same = other_step w c h other in
+    stopped_stays section (step w c) choices h are.1 (ap still_runs same ∙ stopped) ∙ same
 
 -- ---- the harts of a world that another covers
-module _ (section : Option Section) (s w : World) (covers : WorldCovers section s w) where
-  -- hart number i of the one leads to that of the other
-  pub leads : (i : ℕ) (d : HartValue) → i < length w.harts → WalksTo section (code_in w.memory) (get_or w.harts i d) (get_or s.harts i d)
-  leads i d low = covers.harts i (get_or w.harts i d) (get_or s.harts i d) (slice_get-get_or w.harts i d low)
-      (slice_get-get_or s.harts i d (let c = covers.count in omega (arith, low, c)))
+module _ (section : Option Section) (s w : World) (covers : WorldCovers (is_quiet section) s w) where
+  pub covers_count : length s.harts ≡ length w.harts
+  covers_count = ap (λ (x : World). length x.harts) (sym covers.leads) ∙ run_length w covers.choices
 
-  same_exited : (i : ℕ) (d : HartValue) → i < length w.harts → HasExited (get_or w.harts i d) → get_or w.harts i d ≡ get_or s.harts i d
-  same_exited i d low e =
-      let walks = leads i d low in
-      stays_there section (code_in w.memory) walks.steps (get_or w.harts i d) (get_or s.harts i d) walks.walks
-      (exited_stays (code_in w.memory) (get_or w.harts i d).pc (get_or w.harts i d).state e)
-
-  same_faulted : (i : ℕ) (d : HartValue) → i < length w.harts → is_faulted (get_or w.harts i d).state ≡ true
+  same_stopped : (i : ℕ) (d : HartValue) → i < length w.harts → not_stopped (get_or w.harts i d).state ≡ false
       → get_or w.harts i d ≡ get_or s.harts i d
-  same_faulted i d low e =
-      let walks = leads i d low in
-      stays_there section (code_in w.memory) walks.steps (get_or w.harts i d) (get_or s.harts i d) walks.walks
-      (faulted_stays (code_in w.memory) (get_or w.harts i d).pc (get_or w.harts i d).state e)
+  same_stopped i d low stopped =
+      let there : slice_get w.harts i ≡ Some (get_or w.harts i d) = slice_get-get_or w.harts i d low in
+      let same : slice_get s.harts i ≡ slice_get w.harts i
+      = ap (λ (x : World). slice_get x.harts i) (sym covers.leads)
+      ∙ stopped_stays section w covers.choices i covers.are_quiet (ap still_runs there ∙ stopped) in
+      sym (get_or_from_slice_get s.harts i (get_or w.harts i d) d (same ∙ there))
 
 -- each hart that has stopped is the same among others
 pub record StopsAlike (others harts : List HartValue) : Type 0 where
@@ -88,11 +90,11 @@ pub record StopsAlike (others harts : List HartValue) : Type 0 where
   pub faulted : (i : ℕ) (d : HartValue) → i < length harts → is_faulted (get_or harts i d).state ≡ true
       → get_or harts i d ≡ get_or others i d
 
-pub covered_stops : (section : Option Section) (s w : World) → WorldCovers section s w → StopsAlike s.harts w.harts
+pub covered_stops : (section : Option Section) (s w : World) → WorldCovers (is_quiet section) s w → StopsAlike s.harts w.harts
 covered_stops section s w covers = record {
-  count = covers.count;
-  exited = same_exited section s w covers;
-  faulted = same_faulted section s w covers;
+  count = covers_count section s w covers;
+  exited = λ i d low e. same_stopped section s w covers i d low (exited_stopped (get_or w.harts i d).state e);
+  faulted = λ i d low e. same_stopped section s w covers i d low (faulted_stopped (get_or w.harts i d).state e);
 }
 
 module _ (others harts : List HartValue) (alike : StopsAlike others harts) where

@@ -5,9 +5,9 @@ use Rattle.hart_step.specs.Hart.{HartValue}
 use Rattle.hart_local.specs.LocalStep.{step_alone}
 use Rattle.hart_local.specs.declared.stepping.Class.{Class}
 use Rattle.hart_local.specs.declared.stepping.Class.TheVariants.{Local, Shared}
-use Rattle.explore_laws.specs.Settling.{may_walk, rested, rest_steps}
-use Rattle.explore_laws.specs.declared.section.Section.{Section}
-use Rattle.explore_laws.proofs.SettleLemmas.{rested_here, rested_more}
+use Rattle.explore_space.specs.declared.section.Section.{Section}
+use Rattle.explore_space.proofs.RestLemmas.{rested_here, rested_more}
+use Rattle.explore_space.specs.Resting.{may_walk, rest_steps, rested}
 
 -- a hart has taken some of its steps, of `all` at most, and takes the others from where it is
 pub record IsOnTheWay (section : Option Section) (code : Memory) (all done : ℕ) (from here : HartValue) : Type 0 where

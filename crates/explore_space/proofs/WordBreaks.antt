@@ -1,19 +1,18 @@
 -- Words that aren't what they must be, and harts in a section.
 use Rattle.std.proofs.Common.{◌≡◌, ℕ, suc, ◌+◌, ◌≤◌, Bool, true, false, not, ◌||◌, nat_lt, cond, List, [], ◌∷◌, length, Option, Some, None, refl, ap, sym, ◌∙◌, inl, inr, arith}
 use Rattle.std.proofs.lemmas.Bool.{cases_Bool, cases_lt, le-ltb, lt-ltb}
-use Rattle.std.proofs.lemmas.List.Sums.{sum_by-cons}
-use Rattle.std.specs.List.{slice_get, count_by}
+use Rattle.std.specs.List.{slice_get}
 use Rattle.hart_step.specs.Hart.{HartValue}
-use Rattle.hart_local.specs.CodeMemory.{code_in}
 use Rattle.mem_store.specs.Memory.{Memory}
 use Rattle.machine.specs.World.{World}
 use Rattle.bank_laws.specs.Banks.{WordBytes}
 use Rattle.property_judge.specs.Property.{compares, harts_between, holds_in, is_within, word_read}
-use Rattle.explore_laws.proofs.SectionLemmas.{stays_within, within_passes}
-use Rattle.explore_laws.proofs.SettleLemmas.{same_value}
+use Rattle.explore_laws.proofs.ListLemmas.{same_value}
 use Rattle.explore_laws.specs.Covering.{WorldCovers}
-use Rattle.explore_laws.specs.declared.section.Section.{Section}
-use Rattle.explore_space.proofs.AheadLemmas.{Ahead}
+use Rattle.explore_space.specs.Resting.{is_quiet}
+use Rattle.explore_space.specs.declared.section.Section.{Section}
+use Rattle.explore_space.proofs.AheadLemmas.{Ahead, ahead_count, ahead_covers, ahead_same}
+use Rattle.explore_space.proofs.StandLemmas.{covered_within, covers_memory, same_counts, within_passes}
 use Rattle.explore_space.specs.Failing.{breaks_asked, breaks_section, breaks_word}
 use Rattle.explore_space.specs.Places.{memory_over}
 use Rattle.explore_space.specs.declared.question.Always.{Always}
@@ -34,28 +33,14 @@ pub fails_neither : (a b : Bool) → a ≡ false → b ≡ false → a || b ≡ 
 fails_neither a b not_a not_b = rw not_a not_b
 
 -- ---- harts in a section
-count_more : (p : HartValue → Bool) (x : HartValue) (xs : List HartValue) → count_by p (x ∷ xs) ≡ cond (p x) 1 0 + count_by p xs
-count_more p x xs = sum_by-cons (λ z. cond (p z) 1 0) x xs
-
-same_counts : (p : HartValue → Bool) (xs ys : List HartValue) → length xs ≡ length ys
-    → ((h : ℕ) (a b : HartValue) → slice_get xs h ≡ Some a → slice_get ys h ≡ Some b → p a ≡ p b)
-    → count_by p xs ≡ count_by p ys
-same_counts p [] [] even same = refl
-same_counts p [] (y ∷ ys) even same = absurd (omega (arith, even))
-same_counts p (x ∷ xs) [] even same = absurd (omega (arith, even))
-same_counts p (x ∷ xs) (y ∷ ys) even same =
-    count_more p x xs ∙ ap (λ b. cond b 1 0 + count_by p xs) (same 0 x y refl refl)
-    ∙ ap (λ n. cond (p y) 1 0 + n) (same_counts p xs ys (omega (arith, even)) (λ h a b e f. same (suc h) a b e f))
-    ∙ sym (count_more p y ys)
-
 -- a hart that stands in the section stands there in a world ahead too, and the other way round
 same_within : (section : Section) (who : ℕ → Bool) (s w : World) → Ahead (Some section) who s w → (h : ℕ) (a b : HartValue)
     → slice_get s.harts h ≡ Some a → slice_get w.harts h ≡ Some b
     → is_within section.from section.to a ≡ is_within section.from section.to b
 same_within section who s w ahead h a b at_a at_b = elim (cases_Bool (is_within section.from section.to b)) [
   | inl there ↦
-      let walks = ahead.covers.harts h b a at_b at_a in
-      ap (is_within section.from section.to) (sym (stays_within section (code_in w.memory) walks.steps b a walks.walks there))
+      ap (is_within section.from section.to)
+      (sym (covered_within section s w (ahead_covers (Some section) who s w ahead) h b a at_b at_a there))
   | inr not_there ↦ elim (cases_Bool (is_within section.from section.to a)) [
     | inl here ↦ ap (is_within section.from section.to) (by_who (who h) refl here)
     | inr not_here ↦ not_here ∙ sym not_there
@@ -63,7 +48,7 @@ same_within section who s w ahead h a b at_a at_b = elim (cases_Bool (is_within 
 ]
   where
     by_who : (yes_ : Bool) → who h ≡ yes_ → is_within section.from section.to a ≡ true → a ≡ b
-    by_who true is here = same_value a b (slice_get w.harts h) (sym (ahead.same h is) ∙ at_a) at_b
+    by_who true is here = same_value a b (slice_get w.harts h) (sym (ahead_same (Some section) who s w ahead h is) ∙ at_a) at_b
     by_who false is here = same_value a b (slice_get w.harts h) (ahead.stays h a is at_a here) at_b
 
 ahead_section : (section : Option Section) (who : ℕ → Bool) (s w : World) → Ahead section who s w
@@ -71,14 +56,14 @@ ahead_section : (section : Option Section) (who : ℕ → Bool) (s w : World) �
 unfolding holds_in
 ahead_section None who s w ahead = refl
 ahead_section (Some section) who s w ahead =
-    ap (λ n. not (nat_lt n 2)) (same_counts (is_within section.from section.to) s.harts w.harts ahead.covers.count
+    ap (λ n. not (nat_lt n 2)) (same_counts (is_within section.from section.to) s.harts w.harts (ahead_count (Some section) who s w ahead)
     (same_within section who s w ahead))
 
 -- a property is broken exactly where it is in a world ahead
 pub ahead_breaks : (always : Option Always) (section : Option Section) (who : ℕ → Bool) (s w : World) → Ahead section who s w
     → breaks_asked always section s ≡ breaks_asked always section w
 ahead_breaks always section who s w ahead =
-    ap (λ b. b || breaks_section section s) (same_break always s w ahead.covers.memory)
+    ap (λ b. b || breaks_section section s) (same_break always s w (covers_memory section s w (ahead_covers section who s w ahead)))
     ∙ ap (λ b. breaks_word always w || b) (ahead_section section who s w ahead)
 
 -- and it isn't broken where it isn't in a world that covers that one
@@ -88,7 +73,7 @@ few_too m n low few = elim (cases_lt m 2) [
   | inr more ↦ absurd (let no : true ≡ false = rw (le-ltb m 2 more) at few in cc)
 ]
 
-covered_section : (section : Option Section) (s w : World) → WorldCovers section s w → breaks_section section s ≡ false
+covered_section : (section : Option Section) (s w : World) → WorldCovers (is_quiet section) s w → breaks_section section s ≡ false
     → breaks_section section w ≡ false
 unfolding holds_in
 covered_section None s w covers good = refl
@@ -96,12 +81,12 @@ covered_section (Some section) s w covers good =
     few_too (harts_between section.from section.to s.harts) (harts_between section.from section.to w.harts)
     (within_passes section s w covers) good
 
-pub covered_breaks : (always : Option Always) (section : Option Section) (s w : World) → WorldCovers section s w
+pub covered_breaks : (always : Option Always) (section : Option Section) (s w : World) → WorldCovers (is_quiet section) s w
     → breaks_asked always section s ≡ false → breaks_asked always section w ≡ false
 covered_breaks always section s w covers good =
     let both = fails_not (breaks_word always s) (breaks_section section s) good in
     fails_neither (breaks_word always w) (breaks_section section w)
-    (sym (same_break always s w covers.memory) ∙ both.0) (covered_section section s w covers both.1)
+    (sym (same_break always s w (covers_memory section s w covers)) ∙ both.0) (covered_section section s w covers both.1)
 
 -- ---- the memory of a key's world has the image's rights
 pub over_rights : (m : Memory) (values : ℕ → WordBytes) → (memory_over m values).rights ≡ m.rights

@@ -1,4 +1,4 @@
--- The start of turns: each hart has taken its first local steps.
+-- The start of turns: each hart has taken the first local steps.
 use Rattle.std.specs.Prelude.{ℕ, zero, suc, Bool, true, false, not, ◌&&◌, if◌then◌else◌, List, [], ◌++◌, length, slice_get, Option, Some, None}
 use Rattle.hart_step.specs.Hart.{HartValue}
 use Rattle.hart_local.specs.LocalRuns.{plain_choices}
@@ -7,8 +7,9 @@ use Rattle.machine.specs.World.{World}
 use Rattle.machine.specs.declared.choice.Choice.{Choice}
 use Rattle.explore_laws.specs.Bounds.{not_stopped}
 use Rattle.explore_laws.specs.Places.{Place}
-use Rattle.explore_laws.specs.Settling.{rests_in, world_settled, settling_steps, turns_choices}
-use Rattle.explore_laws.specs.declared.section.Section.{Section}
+use Rattle.explore_laws.specs.Settling.{world_settled, turns_choices}
+use Rattle.explore_space.specs.Resting.{rests_in, stride_of}
+use Rattle.explore_space.specs.declared.section.Section.{Section}
 
 -- whether a hart runs and doesn't stand in a section
 abbrev pub runs_outside : Option Section → HartValue → Bool
@@ -18,22 +19,26 @@ abbrev pub runs_outside_there : Option Section → Option HartValue → Bool
 runs_outside_there section None = false
 runs_outside_there section (Some v) = runs_outside section v
 
--- whether hart h still runs behind its local steps, and doesn't stand in the section there; one that
--- stops or comes there takes them in its first turn
-abbrev pub runs_settled : Option Section → World → ℕ → Bool
-runs_settled section w h = runs_outside_there section (slice_get (world_settled section w h).harts h)
+-- the world where hart h has taken the steps that it takes at once
+abbrev pub hart_settled : Option Section → World → ℕ → World
+hart_settled section w h = world_settled (stride_of section) w h
 
--- hart h has taken its local steps if it still runs behind them, outside of the section
+-- whether hart h still runs behind them, and doesn't stand in the section there; one that stops or
+-- comes there takes them in its first turn
+abbrev pub runs_settled : Option Section → World → ℕ → Bool
+runs_settled section w h = runs_outside_there section (slice_get (hart_settled section w h).harts h)
+
+-- hart h has taken them if it still runs behind them, outside of the section
 abbrev pub hart_begun : Option Section → World → ℕ → World
-hart_begun section w h = if runs_settled section w h then world_settled section w h else w
+hart_begun section w h = if runs_settled section w h then hart_settled section w h else w
 
 -- the same of a place
-abbrev pub place_hart_begun : Place → ℕ → Place
-place_hart_begun p h = record { section = p.section; world = hart_begun p.section p.world h; chosen = p.chosen }
+abbrev pub place_hart_begun : Option Section → Place → ℕ → Place
+place_hart_begun section p h = record { stride = p.stride; world = hart_begun section p.world h; chosen = p.chosen }
 
 -- how many steps these are
 abbrev pub first_steps : Option Section → World → ℕ → ℕ
-first_steps section w h = if runs_settled section w h then settling_steps section w (slice_get w.harts h) else 0
+first_steps section w h = if runs_settled section w h then stride_of section w h else 0
 
 -- so it is with each of the first n harts that is asked for
 unfoldable pub world_begun : Option Section → World → (ℕ → Bool) → ℕ → World
@@ -51,8 +56,8 @@ begun_choices section w asked (suc n) = begun_choices section w asked n
 abbrev pub settled_start : Option Section → World → World
 settled_start section w = world_begun section w (λ h. true) (length w.harts)
 
--- the choices of turns from there: first the local steps of the harts that they choose, and none of
--- the others
+-- the choices of turns from there: first those steps of the harts that they choose, and none of the
+-- others
 abbrev pub choices_from_start : Option Section → World → List Choice → List Choice
 choices_from_start section w turns = begun_choices section w (is_chosen turns) (length w.harts)
-    ++ turns_choices section (world_begun section w (is_chosen turns) (length w.harts)) turns
+    ++ turns_choices (stride_of section) (world_begun section w (is_chosen turns) (length w.harts)) turns

@@ -6,7 +6,7 @@ use Rattle.machine.specs.Start.{started}
 use Rattle.machine.specs.World.{World}
 use Rattle.machine.specs.declared.choice.Choice.{Choice}
 use Rattle.explore_laws.specs.OwnSteps.{HasPlainChoices}
-use Rattle.explore_bounds.specs.Steps.{TellsBound}
+use Rattle.explore_laws.specs.Bounds.{HasNoBound, IsExactBound}
 use Rattle.explore_bounds.specs.declared.bound.Bound.{Bound}
 use Rattle.explore_bounds.specs.declared.bound.Bound.TheVariants.{After, Never}
 use Rattle.explore_space.specs.Every.{meant_choices}
@@ -26,11 +26,16 @@ pub record MayAllStep (meant : List Choice) (n : ℕ) : Type 0 where
   pub plain : HasPlainChoices meant
   pub each : (h : ℕ) → h < n → Contains meant (record { hart = h; refuse = false })
 
+-- what is said of a hart's own steps is so: a bound is exact, or there is none
+abbrev pub TellsOwn : List Choice → World → ℕ → Bound → Type 0
+TellsOwn meant first h (After b) = IsExactBound meant first h b
+TellsOwn meant first h Never = HasNoBound meant first h
+
 -- what is said of the own steps of each of so many harts is so: over the runs of all lists of meant
 -- choices from a world, a bound is exact, or there is none
 pub record AreBounds (meant : List Choice) (first : World) (count : ℕ) (bounds : List Bound) : Type 0 where
   pub count_is : length bounds ≡ count
-  pub tell : (h : ℕ) (bound : Bound) → slice_get bounds h ≡ Some bound → TellsBound meant first h bound
+  pub tell : (h : ℕ) (bound : Bound) → slice_get bounds h ≡ Some bound → TellsOwn meant first h bound
 
 -- so it is where bounds are asked for; else there is none
 abbrev pub AnswersBounds : OwnBounds → List Choice → World → ℕ → List Bound → Type 0

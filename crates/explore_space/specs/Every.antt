@@ -11,7 +11,8 @@ use Rattle.outcome.specs.Outcome.{some_run}
 use Rattle.outcome.specs.declared.expect.Exit.{Exit}
 use Rattle.outcome.specs.declared.expect.Exit.TheVariants.{May, Must}
 use Rattle.explore_laws.specs.Places.{place_begun}
-use Rattle.explore_laws.specs.declared.section.Section.{Section}
+use Rattle.explore_space.specs.Resting.{stride_of}
+use Rattle.explore_space.specs.declared.section.Section.{Section}
 use Rattle.explore_search.specs.Counted.{HasPlaces, HasMorePlaces}
 use Rattle.explore_space.specs.Begun.{choices_from_start, settled_start}
 use Rattle.explore_space.specs.Ends.{EndValue, end_with, ends_in}
@@ -75,11 +76,11 @@ HoldsOfEvery rule always section refusals image inputs Undecided = Unit {0}
 -- it is undecided
 abbrev pub CountsPlaces : {Z : Type 0} → Option Section → ScRefusals → ImageValue → List ℕ → ℕ → Answer Z → Type 0
 CountsPlaces section refusals image inputs most (Holds held) =
-    HasPlaces (meant_choices refusals (length inputs)) (place_begun section (settled_start section (started image inputs))) held.places
+    HasPlaces (meant_choices refusals (length inputs)) (place_begun (stride_of section) (settled_start section (started image inputs))) held.places
 CountsPlaces section refusals image inputs most (Fails failing) = Unit {0}
 CountsPlaces section refusals image inputs most (Hangs hanging) = Unit {0}
 CountsPlaces section refusals image inputs most Undecided =
-    HasMorePlaces (meant_choices refusals (length inputs)) (place_begun section (settled_start section (started image inputs))) most
+    HasMorePlaces (meant_choices refusals (length inputs)) (place_begun (stride_of section) (settled_start section (started image inputs))) most
 
 -- no hart runs after a list of choices from a program's start
 abbrev pub StopsAll : ImageValue → List ℕ → List Choice → Type 0

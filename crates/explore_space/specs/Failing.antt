@@ -9,7 +9,7 @@ use Rattle.outcome.specs.declared.expect.Exit.TheVariants.{May}
 use Rattle.property_judge.specs.Broken.{fails_in}
 use Rattle.property_judge.specs.declared.property.Property.TheVariants as property
 use Rattle.explore_laws.specs.Places.{Place}
-use Rattle.explore_laws.specs.declared.section.Section.{Section}
+use Rattle.explore_space.specs.declared.section.Section.{Section}
 use Rattle.explore_space.specs.declared.question.Always.{Always}
 
 -- a plain choice of each hart below n that was chosen; a verdict asks no more of a run's choices

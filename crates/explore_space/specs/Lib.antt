@@ -1,3 +1,4 @@
+pub mod Resting
 pub mod Places
 pub mod Begun
 pub mod Memo

@@ -5,8 +5,8 @@ use Rattle.mem_store.specs.Image.{image_memory}
 use Rattle.hart_step.specs.declared.hart.Hart.{Hart}
 use Rattle.hart_local.specs.CodeMemory.{code_in}
 use Rattle.machine.specs.declared.choice.Choice.{Choice}
-use Rattle.explore_laws.specs.Settling.{at_once, rested}
-use Rattle.explore_laws.specs.declared.section.Section.{Section}
+use Rattle.explore_space.specs.Resting.{at_once, rested}
+use Rattle.explore_space.specs.declared.section.Section.{Section}
 use Rattle.explore_space.specs.Places.{hart_numbered, PartsStep}
 use Rattle.explore_space.specs.declared.shared.Shared.{Shared}
 

@@ -19,7 +19,8 @@ use Rattle.explore_sites.specs.Cells.{words_shown, WordsDiffer}
 use Rattle.explore_sites.specs.Sites.{StepsTo}
 use Rattle.explore_sites.specs.declared.cell.Cell.{Cell}
 use Rattle.explore_laws.specs.Places.{Place}
-use Rattle.explore_laws.specs.declared.section.Section.{Section}
+use Rattle.explore_space.specs.Resting.{stride_of}
+use Rattle.explore_space.specs.declared.section.Section.{Section}
 use Rattle.explore_space.specs.declared.shared.Shared.{Shared}
 
 -- the hart of a number
@@ -54,7 +55,7 @@ world_of_key image n harts shareds key = record {
 -- its place
 abbrev pub place_of_key : {Z : Type 0} → Option Section → ImageValue → ℕ → List Hart → List (Shared Z) → List ℕ → Place
 place_of_key section image n harts shareds key = record {
-  section = section;
+  stride = stride_of section;
   world = world_of_key image n harts shareds key;
   chosen = λ k. slice_index key (n + 1 + k) == 1;
 }

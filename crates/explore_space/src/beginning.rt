@@ -9,6 +9,7 @@ ghost use Rattle.explore_laws.specs.Places.{place_begun};
 ghost use Rattle.explore_space.specs.Begun.{first_steps, runs_outside, place_hart_begun, settled_start};
 ghost use Rattle.explore_space.specs.Memo.{AreRests};
 ghost use Rattle.explore_space.specs.Places.{IsKey, IsKeyOf, hart_numbered, place_of_key};
+ghost use Rattle.explore_space.specs.Resting.{stride_of};
 
 use crate::first::first_harts;
 use crate::kept::Kept;
@@ -16,7 +17,7 @@ use crate::memo::Memo;
 use crate::settling::{LocalCode, runs_outside, settle};
 use crate::shared::Shared;
 use crate::stepping::settled_key;
-use explore_laws::Section;
+use crate::section::Section;
 use hart_step::Hart;
 use image::Image;
 use machine::Inputs;
@@ -54,7 +55,7 @@ fn begin_hart<A: Allocator + Copy>(
     requires is { IsKey image.now count harts.old.parts.items shareds.now key.items }
     requires kept { AreRests code.now.section image.now harts.old.parts.items rests.old.keys rests.old.answers }
     ensures key { IfOk result (λ next. IsKeyOf code.now.section image.now count harts.new.parts.items shareds.now next.items
-        (place_hart_begun (place_of_key code.now.section image.now count harts.old.parts.items shareds.now key.items) number)) }
+        (place_hart_begun code.now.section (place_of_key code.now.section image.now count harts.old.parts.items shareds.now key.items) number)) }
     ensures known { AreRests code.now.section image.now harts.new.parts.items rests.new.keys rests.new.answers }
 {
     let before = Vec::from_slice(alloc, &key)?;
@@ -79,10 +80,10 @@ pub fn begun_key<A: Allocator + Copy>(
 ) -> Result<Vec<u32, A>, AllocError>
     requires its_code { segments_memory code.now.code ≡ code_in (image_memory image.now) }
     requires is { IsKeyOf code.now.section image.now (length inputs.now) harts.old.parts.items shareds.now key.items
-        (place_begun code.now.section (started image.now inputs.now)) }
+        (place_begun (stride_of code.now.section) (started image.now inputs.now)) }
     requires kept { AreRests code.now.section image.now harts.old.parts.items rests.old.keys rests.old.answers }
     ensures key { IfOk result (λ next. IsKeyOf code.now.section image.now (length inputs.now) harts.new.parts.items shareds.now next.items
-        (place_begun code.now.section (settled_start code.now.section (started image.now inputs.now)))) }
+        (place_begun (stride_of code.now.section) (settled_start code.now.section (started image.now inputs.now)))) }
     ensures known { AreRests code.now.section image.now harts.new.parts.items rests.new.keys rests.new.answers }
 {
     let count = inputs.harts() as usize;

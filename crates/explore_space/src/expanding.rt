@@ -9,9 +9,10 @@ ghost use Rattle.explore_space.specs.Begun.{begun_choices, choices_from_start, f
 ghost use Rattle.machine.specs.Start.{started};
 ghost use Rattle.machine.specs.State.{state};
 ghost use Rattle.machine.specs.World.{run};
+ghost use Rattle.explore_space.specs.Resting.{stride_of};
 
 use crate::settling::{LocalCode, runs_outside, settle};
-use explore_laws::Section;
+use crate::section::Section;
 use image::Image;
 use machine::{Choice, Inputs, Machine};
 use mem_flat::FlatStore;
@@ -25,8 +26,8 @@ fn take_turn<A: Allocator, C: Allocator>(
     choices: &mut Vec<Choice, A>,
 ) -> Result<(), AllocError>
     requires { segments_memory code.now.code ≡ code_in (state machine.old).memory }
-    ensures world { OnOk result (state machine.new ≡ run (state machine.old) (turn_choices code.now.section (state machine.old) turn)) }
-    ensures choices { OnOk result (choices.new.items ≡ choices.old.items ++ turn_choices code.now.section (state machine.old) turn) }
+    ensures world { OnOk result (state machine.new ≡ run (state machine.old) (turn_choices (stride_of code.now.section) (state machine.old) turn)) }
+    ensures choices { OnOk result (choices.new.items ≡ choices.old.items ++ turn_choices (stride_of code.now.section) (state machine.old) turn) }
 {
     choices.push(turn)?;
     let number = turn.hart as usize;

@@ -9,12 +9,13 @@ ghost use Rattle.outcome.specs.declared.expect.Exit.TheVariants.{May};
 ghost use Rattle.explore_space.specs.Begun.{settled_start};
 ghost use Rattle.explore_space.specs.Places.{IsKey, hart_numbered, place_of_key, world_of_key};
 ghost use Rattle.explore_space.specs.Failing.{breaks_section, breaks_word, ends_there, fails_there, one_each};
+ghost use Rattle.explore_space.specs.Resting.{stride_of};
 
 use crate::failing::{breaks_word, fails_at, harts_within, has_ended_at};
 use crate::known::Known;
 use crate::question::Always;
 use crate::stepping::steps_from;
-use explore_laws::Section;
+use crate::section::Section;
 use explore_search::Space;
 use hart_step::Hart;
 use image::Image;
@@ -77,7 +78,7 @@ impl<'a, A: Allocator + Copy> Explorer<'a, A> {
     pub fn steps_in(&self, key: &[u32], turn: Choice) -> Result<u32, AllocError>
         requires { IsKey self.now.known.image.now (length self.now.inputs.now) self.now.known.harts.parts.items
             self.now.known.shareds.parts.items key.now }
-        ensures { IfOk result (λ steps. steps ≡ steps_in_turn self.now.known.code.section (world_of_key self.now.known.image.now (length self.now.inputs.now)
+        ensures { IfOk result (λ steps. steps ≡ steps_in_turn (stride_of self.now.known.code.section) (world_of_key self.now.known.image.now (length self.now.inputs.now)
             self.now.known.harts.parts.items self.now.known.shareds.parts.items key.now) turn.hart turn) }
     {
         let count = self.inputs.harts() as usize;
@@ -150,7 +151,7 @@ impl<'a, A: Allocator + Copy> Space<A> for Explorer<'a, A> {
 
     ghost place = { λ e key. place_of_key e.known.code.section e.known.image.now (length e.inputs.now) e.known.harts.parts.items e.known.shareds.parts.items key };
 
-    ghost first = { λ e. place_begun e.known.code.section (settled_start e.known.code.section (started e.known.image.now e.inputs.now)) };
+    ghost first = { λ e. place_begun (stride_of e.known.code.section) (settled_start e.known.code.section (started e.known.image.now e.inputs.now)) };
 
     ghost bad = { λ e p. fails_there e.rule e.always e.known.code.section e.inputs.now p };
 

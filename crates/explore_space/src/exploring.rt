@@ -1,5 +1,5 @@
 //! Every schedule of a program.
-ghost use Rattle.std.specs.Prelude.{◌≡◌, IfOk, length};
+ghost use Rattle.std.specs.Prelude.{◌≡◌, ◌%◌, IfOk, length};
 ghost use Rattle.machine.specs.Start.{started};
 ghost use Rattle.explore_laws.specs.Places.{place_begun};
 ghost use Rattle.explore_laws.specs.Safe.{IsSafe};
@@ -15,6 +15,7 @@ ghost use Rattle.explore_space.specs.Every.{HoldsOfEvery, CountsPlaces, TellsEnd
 ghost use Rattle.explore_space.specs.Failing.{fails_there};
 ghost use Rattle.explore_space.specs.declared.own_bounds.OwnBounds.TheVariants.{Asked};
 ghost use Rattle.explore_space.specs.Stuck.{AnswersExit, edges_for};
+ghost use Rattle.explore_space.specs.Resting.{stride_of};
 
 use crate::ending::ends_at_keys;
 use crate::expanding::choices_of_turns;
@@ -25,7 +26,7 @@ use crate::question::Question;
 use crate::run_end::Ends;
 use byte_io::Progress;
 use explore_bounds::Bound;
-use explore_laws::Section;
+use crate::section::Section;
 use explore_search::{Edges, Found, Seen, nearest_stuck, search};
 use image::Image;
 use machine::{Choice, Inputs};
@@ -89,11 +90,11 @@ fn stuck_turns<A: Allocator + Copy>(
         explorer.now.known.shareds.parts.items)
         (place_of_key explorer.now.known.code.section explorer.now.known.image.now (length explorer.now.inputs.now) explorer.now.known.harts.parts.items
         explorer.now.known.shareds.parts.items)
-        (place_begun explorer.now.known.code.section (settled_start explorer.now.known.code.section (started explorer.now.known.image.now explorer.now.inputs.now))) meant.now seen.now.keys seen.now.links.items }
+        (place_begun (stride_of explorer.now.known.code.section) (settled_start explorer.now.known.code.section (started explorer.now.known.image.now explorer.now.inputs.now))) meant.now seen.now.keys seen.now.links.items }
     requires edges { exit ≡ Must → HaveEdges (place_of_key explorer.now.known.code.section explorer.now.known.image.now (length explorer.now.inputs.now)
         explorer.now.known.harts.parts.items explorer.now.known.shareds.parts.items) meant.now seen.now.keys seen.now.rows }
     ensures { IfOk result (λ found. AnswersExit exit meant.now
-        (place_begun explorer.now.known.code.section (settled_start explorer.now.known.code.section (started explorer.now.known.image.now explorer.now.inputs.now))) found) }
+        (place_begun (stride_of explorer.now.known.code.section) (settled_start explorer.now.known.code.section (started explorer.now.known.image.now explorer.now.inputs.now))) found) }
 {
     match exit {
         Exit::May => Ok(None),
@@ -130,21 +131,22 @@ fn safe_answer<A: Allocator + Copy>(
     question: Question,
 ) -> Result<Answer<A>, AllocError>
     requires meant { meant.now ≡ meant_choices question.refusals (length inputs.now) }
-    requires first { place_begun explorer.now.known.code.section (settled_start explorer.now.known.code.section (started explorer.now.known.image.now explorer.now.inputs.now))
-        ≡ place_begun question.never_both (settled_start question.never_both (started image.now inputs.now)) }
-    requires safe { IsSafe meant.now (place_begun question.never_both (settled_start question.never_both (started image.now inputs.now)))
+    requires first { place_begun (stride_of explorer.now.known.code.section) (settled_start explorer.now.known.code.section (started explorer.now.known.image.now explorer.now.inputs.now))
+        ≡ place_begun (stride_of question.never_both) (settled_start question.never_both (started image.now inputs.now)) }
+    requires entry { image.now.entry % 4 ≡ 0 }
+    requires safe { IsSafe meant.now (place_begun (stride_of question.never_both) (settled_start question.never_both (started image.now inputs.now)))
         (fails_there question.expect.rule question.always question.never_both inputs.now) }
-    requires counts { HasPlaces meant.now (place_begun question.never_both (settled_start question.never_both (started image.now inputs.now))) (length seen.now.keys) }
+    requires counts { HasPlaces meant.now (place_begun (stride_of question.never_both) (settled_start question.never_both (started image.now inputs.now))) (length seen.now.keys) }
     requires seen { AreAllSeen (IsKey explorer.now.known.image.now (length explorer.now.inputs.now) explorer.now.known.harts.parts.items
         explorer.now.known.shareds.parts.items)
         (place_of_key explorer.now.known.code.section explorer.now.known.image.now (length explorer.now.inputs.now) explorer.now.known.harts.parts.items
         explorer.now.known.shareds.parts.items)
-        (place_begun explorer.now.known.code.section (settled_start explorer.now.known.code.section (started explorer.now.known.image.now explorer.now.inputs.now))) meant.now seen.now.keys seen.now.links.items }
+        (place_begun (stride_of explorer.now.known.code.section) (settled_start explorer.now.known.code.section (started explorer.now.known.image.now explorer.now.inputs.now))) meant.now seen.now.keys seen.now.links.items }
     requires reaches { AreAllReached (IsKey explorer.now.known.image.now (length explorer.now.inputs.now) explorer.now.known.harts.parts.items
         explorer.now.known.shareds.parts.items)
         (place_of_key explorer.now.known.code.section explorer.now.known.image.now (length explorer.now.inputs.now) explorer.now.known.harts.parts.items
         explorer.now.known.shareds.parts.items) meant.now
-        (place_begun explorer.now.known.code.section (settled_start explorer.now.known.code.section (started explorer.now.known.image.now explorer.now.inputs.now))) seen.now.keys }
+        (place_begun (stride_of explorer.now.known.code.section) (settled_start explorer.now.known.code.section (started explorer.now.known.image.now explorer.now.inputs.now))) seen.now.keys }
     requires exit_edges { question.expect.exit ≡ Must → HaveEdges (place_of_key explorer.now.known.code.section explorer.now.known.image.now
         (length explorer.now.inputs.now) explorer.now.known.harts.parts.items explorer.now.known.shareds.parts.items)
         meant.now seen.now.keys seen.now.rows }
@@ -175,6 +177,7 @@ fn safe_answer<A: Allocator + Copy>(
                 image,
                 inputs,
                 explorer,
+                question.never_both,
                 meant,
                 seen,
                 question.bounds,
@@ -199,6 +202,7 @@ fn searched_answer<A: Allocator + Copy>(
     progress: &mut impl Progress,
 ) -> Result<Answer<A>, AllocError>
     requires meant { meant.now ≡ meant_choices question.refusals (length inputs.now) }
+    requires entry { image.now.entry % 4 ≡ 0 }
     requires image { explorer.old.known.image.now ≡ image.now }
     requires inputs { explorer.old.inputs.now ≡ inputs.now }
     requires rule { explorer.old.rule ≡ question.expect.rule }
@@ -229,7 +233,8 @@ fn searched_answer<A: Allocator + Copy>(
 /// without a rule a hart that has faulted. None does; or one does, which is given; or turns reach
 /// more places than may be looked at. Where each hart must exit and none fails, it is also answered
 /// whether a list leads to a world that has no way out, and one that does is given. Where bounds are asked for and none fails or hangs, the exact bound on each hart's own
-/// steps is given, or that it has none. The only error is out of memory.
+/// steps is given, or that it has none. The only error is out of memory; an entry that is no
+/// multiple of 4 is refused so too.
 pub fn explore<A: Allocator + Copy>(
     alloc: A,
     image: &Image<A>,
@@ -243,6 +248,9 @@ pub fn explore<A: Allocator + Copy>(
     ensures exits { IfOk result (λ answer. TellsExits question.never_both question.expect.exit question.refusals image.now inputs.now answer) }
     ensures bounds { IfOk result (λ answer. TellsBounds question.bounds question.refusals image.now inputs.now answer) }
 {
+    if image.entry() % 4 != 0 {
+        return Err(AllocError);
+    }
     let meant = meant_choices(alloc, question.refusals, inputs.harts())?;
     let mut explorer = Explorer::new(
         alloc,

@@ -14,7 +14,7 @@ ghost use Rattle.property_judge.specs.Property.{harts_between};
 ghost use Rattle.explore_space.specs.Failing.{breaks_word, one_each};
 
 use crate::question::Always;
-use explore_laws::Section;
+use crate::section::Section;
 use explore_sites::{Cell, word_read};
 use hart_step::Hart;
 use image::Image;

@@ -7,6 +7,7 @@ ghost use Rattle.explore_laws.specs.Places.{place_after, place_begun};
 ghost use Rattle.explore_space.specs.Begun.{settled_start};
 ghost use Rattle.explore_space.specs.Memo.{AreRests, AreSteps};
 ghost use Rattle.explore_space.specs.Places.{IsKey, IsKeyOf, KeysStay, place_of_key};
+ghost use Rattle.explore_space.specs.Resting.{stride_of};
 
 use crate::beginning::begun_key;
 use crate::first::first_parts;
@@ -15,7 +16,7 @@ use crate::memo::Memo;
 use crate::settling::LocalCode;
 use crate::shared::Shared;
 use crate::stepping::{settled_key, stepped_key};
-use explore_laws::Section;
+use crate::section::Section;
 use hart_step::Hart;
 use image::Image;
 use machine::{Choice, Inputs};
@@ -70,7 +71,7 @@ impl<'a, A: Allocator + Copy> Known<'a, A> {
     pub fn begin(&mut self, alloc: A, inputs: &Inputs) -> Result<Vec<u32, A>, AllocError>
         ensures key { IfOk result (λ key. IsKeyOf self.new.code.section self.new.image.now (length inputs.now) self.new.harts.parts.items
             self.new.shareds.parts.items key.items
-            (place_begun self.old.code.section (settled_start self.old.code.section (started self.old.image.now inputs.now)))) }
+            (place_begun (stride_of self.old.code.section) (settled_start self.old.code.section (started self.old.image.now inputs.now)))) }
         ensures image { self.new.image.now ≡ self.old.image.now }
         ensures section { self.new.code.section ≡ self.old.code.section }
     {

@@ -2,13 +2,14 @@
 #![tactic(auto)]
 
 pub use explore_bounds::Bound;
-pub use explore_laws::Section;
 pub use explorer::Explorer;
 pub use exploring::{Answer, Failing, Held, explore};
+pub use laws::{harts_in_a_section_are_seen, local_steps_can_wait};
 pub use meant::ScRefusals;
 pub use own_bounds::OwnBounds;
 pub use question::{Always, Question};
 pub use run_end::{Ends, Returned, RunEnd};
+pub use section::Section;
 pub use shared::Shared;
 
 mod beginning;
@@ -21,6 +22,7 @@ mod first;
 mod hash;
 mod kept;
 mod known;
+mod laws;
 mod meant;
 mod memo;
 mod own_bounds;
@@ -28,6 +30,7 @@ mod own_steps;
 mod parts;
 mod question;
 mod run_end;
+mod section;
 mod settling;
 mod shared;
 mod stepping;

@@ -1,5 +1,5 @@
 //! The bounds on harts' own steps.
-ghost use Rattle.std.specs.Prelude.{◌≡◌, ℕ, ◌<◌, IfOk, length};
+ghost use Rattle.std.specs.Prelude.{◌≡◌, ℕ, ◌%◌, ◌<◌, IfOk, length};
 ghost use Rattle.std.specs.List.{Contains};
 ghost use Rattle.machine.specs.Start.{started};
 ghost use Rattle.explore_laws.specs.Places.{place_begun};
@@ -11,10 +11,12 @@ ghost use Rattle.explore_space.specs.Begun.{settled_start};
 ghost use Rattle.explore_space.specs.Bounds.{AnswersBounds, AreBounds, MayAllStep, later_by};
 ghost use Rattle.explore_space.specs.Places.{IsKey, place_of_key};
 ghost use Rattle.explore_space.specs.declared.own_bounds.OwnBounds.TheVariants.{Asked};
+ghost use Rattle.explore_space.specs.Resting.{stride_of};
 
 use crate::beginning::begun_steps;
 use crate::explorer::Explorer;
 use crate::own_steps::steps_of_turns;
+use crate::section::Section;
 use explore_bounds::{Bound, own_bound};
 use explore_search::Seen;
 use image::Image;
@@ -50,28 +52,30 @@ fn bounds_of<A: Allocator + Copy>(
     image: &Image<A>,
     inputs: &Inputs,
     explorer: &Explorer<A>,
+    section: Option<Section>,
     meant: &[Choice],
     seen: &Seen<A>,
 ) -> Result<Vec<Bound, A>, AllocError>
-    requires first { place_begun explorer.now.known.code.section (settled_start explorer.now.known.code.section (started explorer.now.known.image.now explorer.now.inputs.now))
-        ≡ place_begun explorer.now.known.code.section (settled_start explorer.now.known.code.section (started image.now inputs.now)) }
+    requires first { place_begun (stride_of explorer.now.known.code.section) (settled_start explorer.now.known.code.section (started explorer.now.known.image.now explorer.now.inputs.now))
+        ≡ place_begun (stride_of section) (settled_start section (started image.now inputs.now)) }
+    requires entry { image.now.entry % 4 ≡ 0 }
     requires seen { AreAllSeen (IsKey explorer.now.known.image.now (length explorer.now.inputs.now) explorer.now.known.harts.parts.items
         explorer.now.known.shareds.parts.items)
         (place_of_key explorer.now.known.code.section explorer.now.known.image.now (length explorer.now.inputs.now) explorer.now.known.harts.parts.items
         explorer.now.known.shareds.parts.items)
-        (place_begun explorer.now.known.code.section (settled_start explorer.now.known.code.section (started explorer.now.known.image.now explorer.now.inputs.now))) meant.now seen.now.keys seen.now.links.items }
+        (place_begun (stride_of explorer.now.known.code.section) (settled_start explorer.now.known.code.section (started explorer.now.known.image.now explorer.now.inputs.now))) meant.now seen.now.keys seen.now.links.items }
     requires reaches { AreAllReached (IsKey explorer.now.known.image.now (length explorer.now.inputs.now) explorer.now.known.harts.parts.items
         explorer.now.known.shareds.parts.items)
         (place_of_key explorer.now.known.code.section explorer.now.known.image.now (length explorer.now.inputs.now) explorer.now.known.harts.parts.items
         explorer.now.known.shareds.parts.items) meant.now
-        (place_begun explorer.now.known.code.section (settled_start explorer.now.known.code.section (started explorer.now.known.image.now explorer.now.inputs.now))) seen.now.keys }
+        (place_begun (stride_of explorer.now.known.code.section) (settled_start explorer.now.known.code.section (started explorer.now.known.image.now explorer.now.inputs.now))) seen.now.keys }
     requires edges { HaveEdges (place_of_key explorer.now.known.code.section explorer.now.known.image.now (length explorer.now.inputs.now)
         explorer.now.known.harts.parts.items explorer.now.known.shareds.parts.items) meant.now seen.now.keys seen.now.rows }
     requires meant { MayAllStep meant.now (length inputs.now) }
     ensures { IfOk result (λ bounds. AreBounds meant.now (started image.now inputs.now) (length inputs.now) bounds.items) }
 {
     let steps = steps_of_turns(alloc, explorer, meant, &seen.keys)?;
-    let begun = begun_steps(alloc, image, inputs, explorer.section())?;
+    let begun = begun_steps(alloc, image, inputs, section)?;
     let mut bounds = Vec::new(alloc);
     'harts: for hart in 0..inputs.harts() {
         let bound = own_bound(alloc, meant, &seen.rows, &steps, hart)?;
@@ -88,29 +92,31 @@ pub fn asked_bounds<A: Allocator + Copy>(
     image: &Image<A>,
     inputs: &Inputs,
     explorer: &Explorer<A>,
+    section: Option<Section>,
     meant: &[Choice],
     seen: &Seen<A>,
     asked: OwnBounds,
 ) -> Result<Vec<Bound, A>, AllocError>
-    requires first { place_begun explorer.now.known.code.section (settled_start explorer.now.known.code.section (started explorer.now.known.image.now explorer.now.inputs.now))
-        ≡ place_begun explorer.now.known.code.section (settled_start explorer.now.known.code.section (started image.now inputs.now)) }
+    requires first { place_begun (stride_of explorer.now.known.code.section) (settled_start explorer.now.known.code.section (started explorer.now.known.image.now explorer.now.inputs.now))
+        ≡ place_begun (stride_of section) (settled_start section (started image.now inputs.now)) }
+    requires entry { image.now.entry % 4 ≡ 0 }
     requires seen { AreAllSeen (IsKey explorer.now.known.image.now (length explorer.now.inputs.now) explorer.now.known.harts.parts.items
         explorer.now.known.shareds.parts.items)
         (place_of_key explorer.now.known.code.section explorer.now.known.image.now (length explorer.now.inputs.now) explorer.now.known.harts.parts.items
         explorer.now.known.shareds.parts.items)
-        (place_begun explorer.now.known.code.section (settled_start explorer.now.known.code.section (started explorer.now.known.image.now explorer.now.inputs.now))) meant.now seen.now.keys seen.now.links.items }
+        (place_begun (stride_of explorer.now.known.code.section) (settled_start explorer.now.known.code.section (started explorer.now.known.image.now explorer.now.inputs.now))) meant.now seen.now.keys seen.now.links.items }
     requires reaches { AreAllReached (IsKey explorer.now.known.image.now (length explorer.now.inputs.now) explorer.now.known.harts.parts.items
         explorer.now.known.shareds.parts.items)
         (place_of_key explorer.now.known.code.section explorer.now.known.image.now (length explorer.now.inputs.now) explorer.now.known.harts.parts.items
         explorer.now.known.shareds.parts.items) meant.now
-        (place_begun explorer.now.known.code.section (settled_start explorer.now.known.code.section (started explorer.now.known.image.now explorer.now.inputs.now))) seen.now.keys }
+        (place_begun (stride_of explorer.now.known.code.section) (settled_start explorer.now.known.code.section (started explorer.now.known.image.now explorer.now.inputs.now))) seen.now.keys }
     requires edges { asked ≡ Asked → HaveEdges (place_of_key explorer.now.known.code.section explorer.now.known.image.now (length explorer.now.inputs.now)
         explorer.now.known.harts.parts.items explorer.now.known.shareds.parts.items) meant.now seen.now.keys seen.now.rows }
     requires meant { MayAllStep meant.now (length inputs.now) }
     ensures { IfOk result (λ bounds. AnswersBounds asked meant.now (started image.now inputs.now) (length inputs.now) bounds.items) }
 {
     match asked {
-        OwnBounds::Asked => bounds_of(alloc, image, inputs, explorer, meant, seen),
+        OwnBounds::Asked => bounds_of(alloc, image, inputs, explorer, section, meant, seen),
         OwnBounds::NotAsked => Ok(Vec::new(alloc)),
     }
 }

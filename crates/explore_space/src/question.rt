@@ -1,7 +1,7 @@
 //! What is asked of every schedule.
 use crate::meant::ScRefusals;
 use crate::own_bounds::OwnBounds;
-use explore_laws::Section;
+use crate::section::Section;
 use outcome::Expect;
 use property_judge::Comparison;
 

@@ -5,10 +5,10 @@ ghost use Rattle.hart_step.specs.Hart.{hart_of};
 ghost use Rattle.hart_local.specs.CodeMemory.{code_in};
 ghost use Rattle.hart_local.specs.LocalStep.{step_alone};
 ghost use Rattle.explore_laws.specs.Bounds.{not_stopped};
-ghost use Rattle.explore_laws.specs.Settling.{at_once, may_walk, rested, rest_steps, rests_in};
+ghost use Rattle.explore_space.specs.Resting.{at_once, may_walk, rested, rest_steps, rests_in};
 ghost use Rattle.explore_space.specs.Begun.{runs_outside};
 
-use explore_laws::Section;
+use crate::section::Section;
 use hart_local::{Class, Code, classify, local_step, local_steps};
 use hart_step::{Hart, HartState};
 use image::Image;

@@ -6,8 +6,8 @@ ghost use Rattle.hart_local.specs.CodeMemory.{code_in};
 ghost use Rattle.machine.specs.World.{World};
 ghost use Rattle.explore_laws.specs.OwnSteps.{steps_in_turn};
 ghost use Rattle.explore_laws.specs.Places.{place_settled, place_stepped};
-ghost use Rattle.explore_laws.specs.Settling.{at_once, rested};
-ghost use Rattle.explore_laws.specs.declared.section.Section.{Section};
+ghost use Rattle.explore_space.specs.Resting.{at_once, rested, stride_of};
+ghost use Rattle.explore_space.specs.declared.section.Section.{Section};
 ghost use Rattle.explore_search.specs.Searched.{GoesOn};
 ghost use Rattle.explore_space.specs.Memo.{AreRests, AreSteps};
 ghost use Rattle.explore_space.specs.Places.{HartsDiffer, IsKey, IsKeyOf, KeysStay, KeptOnce, PartsStep, ShowsHart, hart_numbered, place_of_key};
@@ -231,7 +231,7 @@ pub fn steps_from<A: Allocator + Copy>(
     requires its_code { segments_memory code.now.code ≡ code_in (image_memory image.now) }
     requires there { turn.hart < 32 }
     ensures { IfOk result (λ steps. (w : World) → ShowsHart image.now w turn.hart (hart_of hart.now) shared.now
-        → steps ≡ steps_in_turn code.now.section w turn.hart turn) }
+        → steps ≡ steps_in_turn (stride_of code.now.section) w turn.hart turn) }
 {
     match hart.state {
         HartState::Running => {}

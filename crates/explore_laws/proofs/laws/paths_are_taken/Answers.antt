@@ -2,4 +2,4 @@ use Rattle.explore_laws.proofs.laws.paths_are_taken.Goals as goal
 use Rattle.explore_laws.proofs.RoundLemmas.{path_taken}
 
 pub returns : goal.returns
-returns c section meant first h b n plain path less = path_taken meant plain section first h b n path less
+returns c = path_taken

@@ -2,4 +2,4 @@ use Rattle.explore_laws.proofs.laws.rounds_have_no_bound.Goals as goal
 use Rattle.explore_laws.proofs.RoundLemmas.{round_unbounded}
 
 pub returns : goal.returns
-returns c section meant first h plain goes = round_unbounded meant plain section first h goes
+returns c = round_unbounded

@@ -4,13 +4,14 @@ use Rattle.explore_laws.specs.Places.{place_begun}
 use Rattle.explore_space.specs.Places.{IsKeyOf}
 use Rattle.explore_space.proofs.BeginLemmas.{begun_more, begun_none}
 use Rattle.explore_space.proofs.beginning.begun_key.Goals as goal
+use Rattle.explore_space.specs.Resting.{stride_of}
 
 pub numbers-init : goal.numbers-init
 numbers-init g c =
     let w = started c.args.image.now c.args.inputs.now in
     record {
       key = begun_none c.args.code.now.section c.args.image.now _ c.args.harts.now.parts.items c.args.shareds.now c.args.key.items w
-          (subst (λ n. IsKeyOf c.args.code.now.section c.args.image.now n c.args.harts.now.parts.items c.args.shareds.now c.args.key.items (place_begun c.args.code.now.section w))
+          (subst (λ n. IsKeyOf c.args.code.now.section c.args.image.now n c.args.harts.now.parts.items c.args.shareds.now c.args.key.items (place_begun (stride_of c.args.code.now.section) w))
           (sym c.harts-count.ensures.harts) c.requires.is);
       known = c.requires.kept;
     }

@@ -5,11 +5,12 @@ use Rattle.explore_space.specs.Begun.{world_begun}
 use Rattle.explore_space.specs.Memo.{AreRests}
 use Rattle.explore_space.specs.Places.{IsKeyOf}
 use Rattle.explore_space.proofs.beginning.begun_key.Given as goal
+use Rattle.explore_space.specs.Resting.{stride_of}
 
 -- the harts before this one have taken their first local steps
 abbrev pub invariant-numbers : goal.invariant-numbers
 invariant-numbers g l = record {
   key : IsKeyOf l.code.section l.image l.count l.harts.parts.items l.shareds l.key.items
-      (place_begun l.code.section (world_begun l.code.section (started l.image l.inputs) (λ h. true) l.number));
+      (place_begun (stride_of l.code.section) (world_begun l.code.section (started l.image l.inputs) (λ h. true) l.number));
   known : AreRests l.code.section l.image l.harts.parts.items l.rests.keys l.rests.answers;
 }

@@ -9,9 +9,9 @@ use Rattle.hart_local.proofs.RunLemmas.{code_of_run}
 use Rattle.machine.specs.Start.{started}
 use Rattle.machine.specs.World.{World}
 use Rattle.machine.proofs.RunLaws.{length-started}
-use Rattle.explore_laws.proofs.SettleLemmas.{run_nothing}
 use Rattle.explore_space.proofs.BeginLemmas.{AreFirst, first_of_more, first_of_none}
 use Rattle.explore_space.proofs.beginning.begun_steps.Goals as goal
+use Rattle.explore_laws.proofs.ListLemmas.{run_nothing}
 
 pub harts-init : goal.harts-init
 harts-init g c = record {

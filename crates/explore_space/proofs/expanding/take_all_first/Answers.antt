@@ -9,7 +9,7 @@ use Rattle.machine.specs.World.{World}
 use Rattle.machine.specs.declared.choice.Choice.{Choice}
 use Rattle.explore_space.specs.Begun.{begun_choices, first_steps, hart_begun}
 use Rattle.explore_space.proofs.BeginLemmas.{first_more, first_none, world_more, world_none}
-use Rattle.explore_space.proofs.BegunLemmas.{begun_count, begun_memory}
+use Rattle.explore_space.proofs.BegunLemmas.{begun_count, begun_code}
 use Rattle.explore_space.proofs.expanding.take_all_first.Goals as goal
 
 pub harts-init : goal.harts-init
@@ -25,7 +25,7 @@ harts-init g c =
 pub take_if_chosen-requires-clause-code : goal.take_if_chosen-requires-clause-code
 take_if_chosen-requires-clause-code g c =
     let w = state c.args.machine.now in
-    c.requires.code ∙ ap (λ (m : Memory). code_in m) (sym (begun_memory c.args.code.now.section w (is_chosen c.args.turns.now) c.harts.number))
+    c.requires.code ∙ sym (begun_code c.args.code.now.section w (is_chosen c.args.turns.now) c.harts.number)
     ∙ ap (λ (x : World). code_in x.memory) (sym c.harts.invariant.world)
 
 pub take_if_chosen-requires-clause-there : goal.take_if_chosen-requires-clause-there

@@ -5,10 +5,10 @@ use Rattle.hart_step.specs.Hart.{hart_of}
 use Rattle.hart_local.specs.LocalRuns.{plain_choices}
 use Rattle.machine.specs.State.{state}
 use Rattle.machine.specs.declared.choice.Choice.{Choice}
-use Rattle.explore_laws.specs.Settling.{rested, rest_steps, at_once}
 use Rattle.explore_space.proofs.BeginLemmas.{begun_by_state, first_by_state}
 use Rattle.explore_space.proofs.TurnLists.{plain_more, settles}
 use Rattle.explore_space.proofs.expanding.take_first.Goals as goal
+use Rattle.explore_space.specs.Resting.{at_once, rest_steps, rested}
 
 pub returns-then-not-runs_outside-clause-world : goal.returns-then-not-runs_outside-clause-world
 returns-then-not-runs_outside-clause-world g c =

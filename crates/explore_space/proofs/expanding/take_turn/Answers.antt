@@ -9,11 +9,12 @@ use Rattle.hart_local.specs.LocalRuns.{plain_choices}
 use Rattle.machine.specs.State.{state}
 use Rattle.machine.specs.World.{World, step}
 use Rattle.machine.specs.declared.choice.Choice.{Choice}
-use Rattle.explore_laws.specs.Settling.{rested, rest_steps, at_once, world_settled, settling_steps}
-use Rattle.explore_laws.proofs.CoverLemmas.{step_code}
-use Rattle.explore_laws.proofs.TurnLemmas.{run_of_turn}
 use Rattle.explore_space.proofs.TurnLists.{plain_more, nobody_runs, nobody_turns, settles}
 use Rattle.explore_space.proofs.expanding.take_turn.Goals as goal
+use Rattle.explore_laws.proofs.TurnLemmas.{run_of_turn}
+use Rattle.explore_laws.specs.Settling.{world_settled}
+use Rattle.explore_space.proofs.RestLemmas.{step_code}
+use Rattle.explore_space.specs.Resting.{at_once, rest_steps, rested, resting_steps, stride_of}
 
 pub returns-then-number-harts-clause-world : goal.returns-then-number-harts-clause-world
 returns-then-number-harts-clause-world g c =
@@ -37,7 +38,7 @@ returns-clause-world g c =
     c.put_hart.ensures
     ∙ settles c.args.code.now.section (state c.step.new.self) c.args.turn.hart (hart_of c.hart.result.now) (hart_of c.settle-count.new.hart) c.hart.ensures
     (c.settle-count.ensures.hart ∙ ap (λ (m : Memory). rested c.args.code.now.section m at_once (hart_of c.hart.result.now)) code_is)
-    ∙ ap (λ (x : World). world_settled c.args.code.now.section x c.args.turn.hart) stepped_to ∙ sym (run_of_turn c.args.code.now.section w c.args.turn)
+    ∙ ap (λ (x : World). world_settled (stride_of c.args.code.now.section) x c.args.turn.hart) stepped_to ∙ sym (run_of_turn (stride_of c.args.code.now.section) w c.args.turn)
 
 pub returns-clause-choices : goal.returns-clause-choices
 returns-clause-choices g c =
@@ -52,5 +53,5 @@ returns-clause-choices g c =
     ∙ append_assoc c.args.choices.now.items (c.args.turn ∷ []) (plain_choices h c.settle-count.result)
     ∙ ap (λ n. c.args.choices.now.items ++ c.args.turn ∷ plain_choices h n)
     (c.settle-count.ensures.steps ∙ ap (λ (m : Memory). rest_steps c.args.code.now.section m at_once (hart_of c.hart.result.now)) code_is
-    ∙ ap (settling_steps c.args.code.now.section (state c.step.new.self)) (sym c.hart.ensures)
-    ∙ ap (λ (x : World). settling_steps c.args.code.now.section x (slice_get x.harts h)) stepped_to)
+    ∙ ap (resting_steps c.args.code.now.section (state c.step.new.self)) (sym c.hart.ensures)
+    ∙ ap (λ (x : World). resting_steps c.args.code.now.section x (slice_get x.harts h)) stepped_to)

@@ -5,13 +5,18 @@ use Rattle.machine.specs.Start.{started}
 use Rattle.machine.proofs.RunLaws.{length-started}
 use Rattle.explore_laws.specs.Places.{Place, place_begun}
 use Rattle.explore_bounds.specs.Steps.{AreLedTo, TellsBound}
-use Rattle.explore_space.specs.Begun.{first_steps, settled_start}
-use Rattle.explore_space.specs.Bounds.{later_by}
+use Rattle.explore_space.specs.Begun.{settled_start}
+use Rattle.explore_space.specs.Bounds.{TellsOwn, later_by}
 use Rattle.explore_space.specs.Places.{IsKey, place_of_key}
 use Rattle.explore_space.proofs.AheadLemmas.{all_run}
 use Rattle.explore_space.proofs.OwnBoundLemmas.{below_edges, led_from, some_rows, told_more, wide_edges, wide_steps}
-use Rattle.explore_space.proofs.StartLemmas.{told_later}
+use Rattle.explore_space.proofs.StartLemmas.{own_start, told_later}
 use Rattle.explore_space.proofs.own_bounds.bounds_of.Goals as goal
+use Rattle.machine.specs.Chosen.{own}
+use Rattle.explore_space.specs.Resting.{is_clear, is_quiet, stride_of}
+use Rattle.explore_space.proofs.BegunLemmas.{start_covers}
+use Rattle.explore_space.proofs.EveryLemmas.{start_aligned}
+use Rattle.explore_space.proofs.RestLemmas.{section_waits}
 
 pub steps_of_turns-requires : goal.steps_of_turns-requires
 steps_of_turns-requires g c = c.requires.seen.reached.are
@@ -21,7 +26,7 @@ own_bound-requires-clause-some g c =
     let e = c.args.explorer.now in
     some_rows (IsKey e.known.image.now (length e.inputs.now) e.known.harts.parts.items e.known.shareds.parts.items)
     (place_of_key e.known.code.section e.known.image.now (length e.inputs.now) e.known.harts.parts.items e.known.shareds.parts.items)
-    (place_begun e.known.code.section (settled_start e.known.code.section (started e.known.image.now e.inputs.now))) c.args.meant.now c.args.seen.now.keys c.args.seen.now.links.items
+    (place_begun (stride_of e.known.code.section) (settled_start e.known.code.section (started e.known.image.now e.inputs.now))) c.args.meant.now c.args.seen.now.keys c.args.seen.now.links.items
     c.args.seen.now.rows c.requires.seen c.requires.edges
 
 pub own_bound-requires-clause-rows : goal.own_bound-requires-clause-rows
@@ -45,7 +50,10 @@ harts-preserved g c =
     let keys = IsKey e.known.image.now (length e.inputs.now) e.known.harts.parts.items e.known.shareds.parts.items in
     let place = place_of_key e.known.code.section e.known.image.now (length e.inputs.now) e.known.harts.parts.items e.known.shareds.parts.items in
     let start = started c.args.image.now c.args.inputs.now in
-    let first = settled_start e.known.code.section start in
+    let section = c.args.section in
+    let first = settled_start section start in
+    let aligned = start_aligned c.args.image.now c.args.inputs.now c.requires.entry in
+    let covers = start_covers section start aligned in
     let hart = c.harts.hart in
     let low = c.harts-test.true in
     let end = c.harts-hart-end.ensures.harts in
@@ -54,15 +62,17 @@ harts-preserved g c =
     (let count = c.in_ok-begun.ensures.count in omega (arith, low, end, count)) c.index.ensures in
     let led = subst (λ (p : Place). AreLedTo c.args.meant.now p place c.args.seen.now.keys) c.requires.first
     (led_from keys place _ c.args.meant.now c.args.seen.now.keys c.args.seen.now.links.items c.requires.seen c.requires.reaches) in
-    let tells : TellsBound c.args.meant.now first hart c.in_ok-bound.bound
-    = c.in_ok-bound.ensures e.known.code.section first place c.args.seen.now.keys c.requires.meant.plain (c.requires.meant.each hart (omega (arith, low, end)))
+    let tells : TellsBound c.args.meant.now first start (own covers.choices hart) hart c.in_ok-bound.bound
+    = c.in_ok-bound.ensures (is_quiet section) is_clear (stride_of section) (section_waits section) first start aligned covers place
+    c.args.seen.now.keys c.requires.meant.plain (c.requires.meant.each hart (omega (arith, low, end))) (λ k key d e f. refl)
     led c.requires.edges c.in_ok-steps.ensures in
     record {
       count = ap length c.in_ok-push.ensures.items ∙ length-append c.harts.bounds.items _ ∙ ap (λ n. n + 1) c.harts.invariant.count;
       told = told_more c.args.meant.now start c.harts.bounds.items c.push.new.self.items hart c.in_ok-later.later c.harts.invariant.count
-          (subst (TellsBound c.args.meant.now start hart)
-          (ap (later_by c.in_ok-bound.bound) (sym (c.in_ok-begun.ensures.are hart c.index.result.now begun_there ∙ ap (λ x. first_steps x start hart) c.section.ensures)) ∙ sym c.in_ok-later.ensures)
-          (told_later e.known.code.section c.args.meant.now start (λ h l. c.requires.meant.each h (omega (arith, l, len))) hart c.in_ok-bound.bound
-          (omega (arith, low, end, len)) (all_run c.args.image.now c.args.inputs.now) tells))
+          (subst (TellsOwn c.args.meant.now start hart)
+          (ap (later_by c.in_ok-bound.bound) (sym (c.in_ok-begun.ensures.are hart c.index.result.now begun_there)) ∙ sym c.in_ok-later.ensures)
+          (told_later section c.args.meant.now start aligned (λ h l. c.requires.meant.each h (omega (arith, l, len))) hart
+          (own covers.choices hart) c.in_ok-bound.bound (omega (arith, low, end, len)) (all_run c.args.image.now c.args.inputs.now)
+          (own_start section start hart aligned (omega (arith, low, end, len))) tells))
           c.harts.invariant.told c.in_ok-push.ensures.items;
     }

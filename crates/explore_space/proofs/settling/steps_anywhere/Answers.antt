@@ -1,7 +1,7 @@
 use Rattle.mem_store.specs.Image.{segments_memory}
-use Rattle.explore_laws.specs.Settling.{at_once}
-use Rattle.explore_laws.proofs.SettleLemmas.{walked_is_rested}
 use Rattle.explore_space.proofs.settling.steps_anywhere.Goals as goal
+use Rattle.explore_space.proofs.RestLemmas.{walked_is_rested}
+use Rattle.explore_space.specs.Resting.{at_once}
 
 pub returns-clause-hart : goal.returns-clause-hart
 returns-clause-hart g c =

@@ -2,9 +2,9 @@ use Rattle.std.proofs.Common.{◌+◌, cond, Some, ap, sym, ◌∙◌, subst, ar
 use Rattle.mem_store.specs.Image.{segments_memory}
 use Rattle.hart_step.specs.Hart.{hart_of}
 use Rattle.hart_local.specs.LocalStep.{step_alone}
-use Rattle.explore_laws.specs.Settling.{at_once}
 use Rattle.explore_space.proofs.SettlingLemmas.{IsOnTheWay, way_ends, way_more, way_none, way_stops}
 use Rattle.explore_space.proofs.settling.steps_outside.Goals as goal
+use Rattle.explore_space.specs.Resting.{at_once}
 
 pub steps-init : goal.steps-init
 steps-init g c = way_none (Some c.args.section) (segments_memory c.args.code.now) at_once (hart_of c.args.hart.now)

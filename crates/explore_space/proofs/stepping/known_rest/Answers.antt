@@ -4,10 +4,10 @@ use Rattle.mem_store.specs.Image.{image_memory}
 use Rattle.mem_store.specs.Memory.{Memory}
 use Rattle.hart_step.specs.Hart.{hart_of}
 use Rattle.hart_local.specs.CodeMemory.{code_in}
-use Rattle.explore_laws.specs.Settling.{at_once, rested}
 use Rattle.explore_space.specs.Places.{hart_in}
 use Rattle.explore_space.proofs.MemoLemmas.{kept_rest, rest_kept, rests_stay}
 use Rattle.explore_space.proofs.stepping.known_rest.Goals as goal
+use Rattle.explore_space.specs.Resting.{at_once, rested}
 
 pub returns-in-Some-len1-clause-there : goal.returns-in-Some-len1-clause-there
 returns-in-Some-len1-clause-there g c =

@@ -4,11 +4,11 @@ use Rattle.std.proofs.lemmas.Option.{slice_get_read, get_or_from_slice_get}
 use Rattle.std.specs.List.{slice_index}
 use Rattle.mem_store.specs.Image.{image_memory}
 use Rattle.hart_local.specs.CodeMemory.{code_in}
-use Rattle.explore_laws.specs.Settling.{rested, at_once}
 use Rattle.explore_space.specs.Places.{hart_numbered}
 use Rattle.explore_space.proofs.KeyLemmas.{kept, taken_at}
 use Rattle.explore_space.proofs.SettledKeys.{settled_is_key_of}
 use Rattle.explore_space.proofs.stepping.settled_key.Goals as goal
+use Rattle.explore_space.specs.Resting.{at_once, rested}
 
 pub returns-clause-kept : goal.returns-clause-kept
 returns-clause-kept g c =

@@ -5,10 +5,10 @@ use Rattle.hart_reservations.specs.Marks.{mark_at}
 use Rattle.hart_step.specs.Hart.{hart_of}
 use Rattle.bank_laws.specs.Table.{table}
 use Rattle.explore_sites.specs.Cells.{words_shown}
-use Rattle.explore_laws.specs.Settling.{at_once, rest_steps}
 use Rattle.explore_space.proofs.KeyLemmas.{steps_moved}
 use Rattle.explore_space.proofs.OwnLemmas.{steps_running}
 use Rattle.explore_space.proofs.stepping.steps_from.Goals as goal
+use Rattle.explore_space.specs.Resting.{at_once, rest_steps}
 
 pub returns : goal.returns
 returns g c = λ w shows.

@@ -1,6 +1,6 @@
 //! Where harts rest.
 
-/// A section of code. A hart that stands in one takes no local step at once, so that each world in
+/// A section of code. A hart that stands in one takes no step at once, so that each world in
 /// which it stands there is seen.
 #[derive(Clone, Copy)]
 pub struct Section {
