@@ -257,10 +257,11 @@ module _ (quiet clear : OfNextStep) (stride : Stride) (waits : CanWait quiet cle
       = settled_fall meant h place keys rows steps numbers limit have own_ even ends.0 ends.1 is_limit.3 in
       let of : HasPathOf meant h (place_begun stride first) b
       = subst (λ (p : Place). HasPathOf meant h p b) led.is_first (taken 0 led.first_key b led.at_first b_is) in
-      let enough = of.enough in
-      (numbers_bound_behind quiet clear stride waits meant h place keys numbers are_clear falls first w b aligned meant_h covers
-      (record { index = 0; key = led.first_key; there = led.at_first; is = led.is_first; number_is = b_is }),
-      λ n less. path_taken quiet clear stride waits meant plain first h of.steps n aligned_first of.path (omega (arith, less, enough)))
+      let enough = of.enough in (
+        numbers_bound_behind quiet clear stride waits meant h place keys numbers are_clear falls first w b aligned meant_h covers
+            (record { index = 0; key = led.first_key; there = led.at_first; is = led.is_first; number_is = b_is }),
+        λ n less. path_taken quiet clear stride waits meant plain first h of.steps n aligned_first of.path (omega (arith, less, enough)),
+      )
 
   pub none_from : AreLedTo meant (place_begun stride first) place keys → HaveEdges place meant keys rows → HaveSteps place meant keys steps
       → length numbers ≡ length rows → IsLimit steps limit → EndsRaising meant h rows steps limit numbers false

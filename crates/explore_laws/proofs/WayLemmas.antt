@@ -34,9 +34,11 @@ module _ (quiet clear : OfNextStep) (stride : Stride) (waits : CanWait quiet cle
       let d : Choice = record { hart = c.hart; refuse = false } in
       let low = runs_there w c.hart (waits.runs w c.hart are.0) in
       let is : step w d ≡ step w c = waits.alike w c d are.0 refl in
-      let more = quiet_way (step w c) choices (length_step w c ∙ count) are.1 in
-      (d ∷ more.0, All-cons (Contains meant) d more.0 (plain c.hart (omega (arith, low, count))) more.1,
-      ap (λ x. run x more.0) is ∙ more.2)
+      let more = quiet_way (step w c) choices (length_step w c ∙ count) are.1 in (
+        d ∷ more.0,
+        All-cons (Contains meant) d more.0 (plain c.hart (omega (arith, low, count))) more.1,
+        ap (λ x. run x more.0) is ∙ more.2,
+      )
 
   -- meant choices lead from a world to one that covers it
   pub walks_there : (s w : World) → length w.harts ≡ n → WorldCovers quiet s w

@@ -23,7 +23,7 @@ use Rattle.explore_laws.proofs.CountLemmas.{none_own, other_plain, own_joined}
 use Rattle.explore_laws.proofs.ListLemmas.{run_joined, run_nothing}
 use Rattle.explore_laws.proofs.QuietLemmas.{aligned_run, others_run, quiet_joined, step_aligned}
 use Rattle.explore_space.specs.Begun.{choices_from_start, hart_begun, hart_settled, runs_outside, runs_outside_there, runs_settled, settled_start, world_begun}
-use Rattle.explore_space.specs.Resting.{is_clear, is_quiet, rests_in, stride_of}
+use Rattle.explore_space.specs.Resting.{all_clear, is_quiet, rests_in, stride_of}
 use Rattle.explore_space.specs.declared.section.Section.{Section}
 use Rattle.explore_space.proofs.BegunLemmas.{begun_aligned, begun_other, run_from_start}
 use Rattle.explore_space.proofs.PassLemmas.{StopsAlike, covered_stops, exited_stopped, faulted_stopped, passes}
@@ -77,8 +77,8 @@ module _ (section : Option Section) (who : ℕ → Bool) where
       × ArePast (is_quiet section) w ahead.choices (plain_choices h (stride_of section w h))
   settle_past s w h aligned ahead yes_ = (
     ap (λ x. stride_of section x h) (sym ahead.leads)
-        ∙ stride_along (is_quiet section) is_clear (stride_of section) (section_waits section) w ahead.choices h aligned ahead.are_quiet (ahead.none h yes_),
-    past (is_quiet section) is_clear (stride_of section) (section_waits section) w ahead.choices (plain_choices h (stride_of section w h)) aligned ahead.are_quiet
+        ∙ stride_along (is_quiet section) all_clear (stride_of section) (section_waits section) w ahead.choices h aligned ahead.are_quiet (ahead.none h yes_),
+    past (is_quiet section) all_clear (stride_of section) (section_waits section) w ahead.choices (plain_choices h (stride_of section w h)) aligned ahead.are_quiet
         ((section_waits section).strides w h aligned) (apart_plain s w ahead h (stride_of section w h) yes_),
   )
 
@@ -115,7 +115,7 @@ module _ (section : Option Section) (who : ℕ → Bool) where
   step_alike : (s w : World) (c : Choice) → AreAligned w → Ahead section who s w → who c.hart ≡ true
       → Ahead section who (step s c) (step w c)
   step_alike s w c aligned ahead yes_ =
-      let is = behind (is_quiet section) is_clear (stride_of section) (section_waits section) w c ahead.choices aligned ahead.are_quiet refl (ahead.none c.hart yes_) in
+      let is = behind (is_quiet section) all_clear (stride_of section) (section_waits section) w c ahead.choices aligned ahead.are_quiet refl (ahead.none c.hart yes_) in
       record {
         choices = ahead.choices;
         are_quiet = is.are_quiet;

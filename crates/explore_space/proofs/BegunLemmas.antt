@@ -1,5 +1,5 @@
 -- Harts that have taken their first local steps.
-use Rattle.std.proofs.Common.{◌≡◌, ℕ, zero, suc, ◌+◌, ◌<◌, ◌≤◌, ◌==◌, Bool, true, false, ◌||◌, List, [], ◌∷◌, ◌++◌, length, cond, refl, ap, sym, ◌∙◌, subst, inl, inr, ◌⊎◌, arith}
+use Rattle.std.proofs.Common.{◌≡◌, ℕ, zero, suc, ◌+◌, ◌<◌, ◌≤◌, ◌==◌, Bool, true, false, ◌||◌, List, [], ◌∷◌, ◌++◌, length, cond, Option, refl, ap, sym, ◌∙◌, subst, inl, inr, ◌⊎◌, arith}
 use Rattle.std.proofs.lemmas.Bool.{cases_eq, ne_eqb}
 use Rattle.std.proofs.lemmas.List.{append-nil}
 use Rattle.std.specs.List.{slice_get}
@@ -80,7 +80,7 @@ module _ (section : Option Section) where
       by_case false before = subst (AreQuiet (is_quiet section) w) (sym (append-nil (begun_choices section w asked n))) before
 
   -- the world where turns start covers the one before any choice
-  pub start_covers : (w : World) → AreAligned w → WorldCovers (is_quiet section) (settled_start section w) w
+  abbrev pub start_covers : (w : World) → AreAligned w → WorldCovers (is_quiet section) (settled_start section w) w
   start_covers w aligned = record {
     choices = begun_choices section w (λ k. true) (length w.harts);
     are_quiet = begun_quiet w (λ k. true) (length w.harts) aligned;

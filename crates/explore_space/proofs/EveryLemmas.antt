@@ -39,7 +39,7 @@ use Rattle.explore_space.proofs.AheadLemmas.{all_run, fails_ahead, start_ahead}
 use Rattle.explore_space.proofs.StartLemmas.{begun_meant, run_has_start}
 use Rattle.explore_space.specs.declared.section.Section.{Section}
 use Rattle.explore_laws.specs.Settling.{Stride, turns_choices, world_settled}
-use Rattle.explore_space.specs.Resting.{resting_steps, stride_of}
+use Rattle.explore_space.specs.Resting.{is_quiet, stride_of}
 
 -- ---- the harts of meant choices
 of_hart : (refusals : ScRefusals) (n i : ℕ) (c : Choice) → i < length (hart_choices refusals n)

@@ -48,7 +48,7 @@ use Rattle.explore_space.specs.declared.section.Section.{Section}
 use Rattle.explore_laws.proofs.ListLemmas.{run_joined}
 use Rattle.explore_laws.proofs.TurnLemmas.{run_of_turns, turns_from}
 use Rattle.explore_laws.specs.Settling.{turns_choices}
-use Rattle.explore_space.specs.Resting.{is_clear, is_quiet, stride_of}
+use Rattle.explore_space.specs.Resting.{all_clear, is_quiet, stride_of}
 
 stopped : (b : Bool) → not b ≡ true → b ≡ false
 stopped false e = refl
@@ -70,7 +70,7 @@ module _ (section : Option Section) (refusals : ScRefusals) (image : ImageValue)
   -- turns lead out of a place where their choices lead out of its world
   place_exit : (p : Place) → HasWayOut meant ends_there p → HasExit meant p.world
   place_exit p way = record {
-    choices = turns_choices (stride_of p.stride) p.world way.turns;
+    choices = turns_choices p.stride p.world way.turns;
     meant_ones = turns_meant refusals (length inputs) p.stride p.world way.turns way.are_meant;
     stops = ap (λ (x : World). some_run x.harts) (turns_from p way.turns)
         ∙ stopped (some_run (place_reached p way.turns).world.harts) way.ends;
@@ -91,7 +91,7 @@ module _ (section : Option Section) (refusals : ScRefusals) (image : ImageValue)
   -- local steps lead to a world that covers another, and so out of that one
   covered_exit : (s w : World) → length w.harts ≡ length inputs → WorldCovers (is_quiet section) s w → HasExit meant s → HasExit meant w
   covered_exit s w count covers exit =
-      let there = walks_there (is_quiet section) is_clear (stride_of section) (section_waits section) meant (length inputs)
+      let there = walks_there (is_quiet section) all_clear (stride_of section) (section_waits section) meant (length inputs)
       (λ h low. plain_meant refusals (length inputs) h low) s w count covers in
       record {
         choices = there.0 ++ exit.choices;

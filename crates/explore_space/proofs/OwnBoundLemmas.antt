@@ -34,20 +34,20 @@ contains_at xs k x e = (k, slice_get_within xs k x e, get_or_from_slice_get xs k
 -- ---- a row of steps
 -- the numbers of a row are those of the turns so far
 abbrev pub AreSteps : List Choice → Place → List ℕ → Type 0
-AreSteps turns p row = (i s : ℕ) (c : Choice) → slice_get row i ≡ Some s → slice_get turns i ≡ Some c → s ≡ steps_in_turn (stride_of p.stride) p.world c.hart c
+AreSteps turns p row = (i s : ℕ) (c : Choice) → slice_get row i ≡ Some s → slice_get turns i ≡ Some c → s ≡ steps_in_turn p.stride p.world c.hart c
 
 pub steps_none : (turns : List Choice) (p : Place) (row : List ℕ) → row ≡ [] → AreSteps turns p row
 steps_none turns p row none i s c e f =
     absurd (let w = slice_get_within row i s e in let n = ap (λ (r : List ℕ). length r) none in omega (arith, w, n))
 
 pub steps_more : (turns : List Choice) (p : Place) (row more : List ℕ) (i s : ℕ) (c : Choice) → length row ≡ i → slice_get turns i ≡ Some c
-    → s ≡ steps_in_turn (stride_of p.stride) p.world c.hart c → AreSteps turns p row → more ≡ row ++ s ∷ [] → AreSteps turns p more
+    → s ≡ steps_in_turn p.stride p.world c.hart c → AreSteps turns p row → more ≡ row ++ s ∷ [] → AreSteps turns p more
 steps_more turns p row more i s c count there is before pushed k x d e f =
     elim (get_either row s x k (ap (λ r. slice_get r k) (sym pushed) ∙ e)) [
       | inl old ↦ before k x d old f
       | inr new ↦
           let same : c ≡ d = same_at turns i c d there (ap (slice_get turns) (sym (new.0 ∙ count)) ∙ f) in
-          sym new.1 ∙ is ∙ ap (λ (y : Choice). steps_in_turn (stride_of p.stride) p.world y.hart y) same
+          sym new.1 ∙ is ∙ ap (λ (y : Choice). steps_in_turn p.stride p.world y.hart y) same
     ]
 
 -- ---- rows of steps

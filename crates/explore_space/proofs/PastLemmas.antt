@@ -7,7 +7,7 @@ use Rattle.machine.specs.declared.choice.Choice.{Choice}
 use Rattle.explore_laws.specs.Quiet.{AreAligned, AreQuiet, CanWait, OfNextStep}
 use Rattle.explore_laws.specs.Settling.{Stride}
 use Rattle.explore_laws.proofs.CountLemmas.{none_own, one_own}
-use Rattle.explore_laws.proofs.QuietLemmas.{IsAmong, IsBehind, by_quiet, step_aligned}
+use Rattle.explore_laws.proofs.QuietLemmas.{IsAmong, IsBehind, aligned_run, by_quiet, step_aligned}
 
 -- quiet steps of others are quiet behind some steps too, and lead to the same world before them
 pub record ArePast (quiet : OfNextStep) (w : World) (others choices : List Choice) : Type 0 where
@@ -60,13 +60,8 @@ module _ (quiet clear : OfNextStep) (stride : Stride) (waits : CanWait quiet cle
   past w others [] aligned are quiet_too apart = record { are_quiet = are; leads = refl }
   past w others (c ∷ choices) aligned are quiet_too apart =
       let on = step_aligned w c aligned in
-      let at : clear (run w others) c.hart ≡ true = waits.is_clear (run w others) c.hart (aligned_after w others aligned)
+      let at : clear (run w others) c.hart ≡ true = waits.is_clear (run w others) c.hart (aligned_run w others aligned)
       (quiet_along w others c.hart aligned are apart.0 quiet_too.0) in
       let is : IsBehind quiet w c others = behind w c others aligned are at apart.0 in
       let more = past (step w c) others choices on is.are_quiet quiet_too.1 apart.1 in
       record { are_quiet = more.are_quiet; leads = more.leads ∙ ap (λ x. run x choices) is.leads }
-    where
-      aligned_after : (w : World) (others : List Choice) → AreAligned w → AreAligned (run w others)
-      unfolding run
-      aligned_after w [] aligned = aligned
-      aligned_after w (c ∷ others) aligned = aligned_after (step w c) others (step_aligned w c aligned)

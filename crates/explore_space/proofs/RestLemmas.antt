@@ -22,7 +22,7 @@ use Rattle.explore_laws.specs.Quiet.{AreQuiet, CanWait}
 use Rattle.explore_laws.specs.Settling.{world_settled}
 use Rattle.explore_laws.proofs.ListLemmas.{get_set_other, run_more, run_nothing, same_value, there_set}
 use Rattle.explore_laws.proofs.StopLemmas.{other_step}
-use Rattle.explore_space.specs.Resting.{at_once, is_clear, is_quiet, is_quiet_by, may_walk, rest_steps, rested, resting_steps, rests_in, stride_of}
+use Rattle.explore_space.specs.Resting.{at_once, all_clear, is_quiet, is_quiet_by, may_walk, rest_steps, rested, resting_steps, rests_in, stride_of}
 use Rattle.explore_space.specs.declared.section.Section.{Section}
 
 -- ---- steps
@@ -71,6 +71,19 @@ set_swaps (z ∷ xs) zero zero x y other = absurd (other refl)
 set_swaps (z ∷ xs) zero (suc j) x y other = refl
 set_swaps (z ∷ xs) (suc i) zero x y other = refl
 set_swaps (z ∷ xs) (suc i) (suc j) x y other = ap (λ (zs : List _). z ∷ zs) (set_swaps xs i j x y (λ e. other (ap suc e)))
+
+set_twice : {X : Type 0} (xs : List X) (h : ℕ) (a b : X) → set (set xs h a) h b ≡ set xs h b
+set_twice [] h a b = refl
+set_twice (x ∷ xs) zero a b = refl
+set_twice (x ∷ xs) (suc h) a b = ap (λ (ys : List _). x ∷ ys) (set_twice xs h a b)
+
+set_same : (hs : List HartValue) (h : ℕ) (v : HartValue) → slice_get hs h ≡ Some v → hs ≡ set hs h v
+set_same [] h v e = refl
+set_same (x ∷ hs) zero v e = ap (λ (y : HartValue). y ∷ hs) (same_value x v (Some x) refl e)
+set_same (x ∷ hs) (suc h) v e = ap (λ (ys : List HartValue). x ∷ ys) (set_same hs h v e)
+
+same_hart : (w : World) (h : ℕ) (v : HartValue) → slice_get w.harts h ≡ Some v → w ≡ with_walked_hart w h v
+same_hart w h v e = ap (λ (hs : List HartValue). record { harts = hs; memory = w.memory; reserved = w.reserved }) (set_same w.harts h v e)
 
 module _ (section : Option Section) where
   quiet_runs : (w : World) (h : ℕ) → is_quiet section w h ≡ true → runs_in w h ≡ true
@@ -132,20 +145,23 @@ module _ (section : Option Section) where
       → AreQuiet (is_quiet section) w (plain_choices h (rest_steps section (code_in w.memory) limit v))
   unfolding rest_steps
   rests_quiet zero w h v there = tt
-  rests_quiet (suc limit) w h v there = by_class (may_walk section (code_in w.memory) v) refl
-    where
-      by_class : (b : Bool) → may_walk section (code_in w.memory) v ≡ b
-          → AreQuiet (is_quiet section) w (plain_choices h (cond b (suc (rest_steps section (code_in w.memory) limit (step_alone (code_in w.memory) v))) 0))
-      by_class false is = tt
-      by_class true is =
-          let d : Choice = record { hart = h; refuse = false } in
-          let a : HartValue = step_alone (code_in w.memory) v in
-          let leads = step_rests section w d v there is in
-          let at : slice_get (step w d).harts h ≡ Some a
-          = ap (λ (x : World). slice_get x.harts h) leads ∙ there_set w.harts h v a there in
-          (ap (is_quiet_by section w) there ∙ is,
-          subst (λ m. AreQuiet (is_quiet section) (step w d) (plain_choices h (rest_steps section m limit a))) (step_code w d)
-          (rests_quiet limit (step w d) h a at))
+  rests_quiet (suc limit) w h v there = elim (cases_Bool (may_walk section (code_in w.memory) v)) [
+    | inl is ↦
+        let d : Choice = record { hart = h; refuse = false } in
+        let a : HartValue = step_alone (code_in w.memory) v in
+        let leads = step_rests section w d v there is in
+        let at : slice_get (step w d).harts h ≡ Some a
+        = ap (λ (x : World). slice_get x.harts h) leads ∙ there_set w.harts h v a there in
+        let rest : AreQuiet (is_quiet section) (step w d) (plain_choices h (rest_steps section (code_in (step w d).memory) limit a))
+        = rests_quiet limit (step w d) h a at in
+        subst (λ b. AreQuiet (is_quiet section) w (plain_choices h (cond b (suc (rest_steps section (code_in w.memory) limit a)) 0))) (sym is) (
+          ap (is_quiet_by section w) there ∙ is,
+          subst (λ m. AreQuiet (is_quiet section) (step w d) (plain_choices h (rest_steps section m limit a))) (step_code w d) rest,
+        )
+    | inr no_ ↦
+        subst (λ b. AreQuiet (is_quiet section) w (plain_choices h (cond b (suc (rest_steps section (code_in w.memory) limit (step_alone (code_in w.memory) v))) 0)))
+        (sym no_) tt
+  ]
 
   strides_quiet : (w : World) (h : ℕ) → AreQuiet (is_quiet section) w (plain_choices h (stride_of section w h))
   strides_quiet w h = by_hart (slice_get w.harts h) refl
@@ -155,7 +171,7 @@ module _ (section : Option Section) where
       by_hart None e = tt
       by_hart (Some v) e = rests_quiet at_once w h v e
 
-  pub section_waits : CanWait (is_quiet section) is_clear (stride_of section)
+  pub section_waits : CanWait (is_quiet section) all_clear (stride_of section)
   section_waits = record {
     runs = quiet_runs;
     alike = quiet_alike;
@@ -176,42 +192,28 @@ module _ (section : Option Section) where
       → run w (plain_choices h (rest_steps section (code_in w.memory) limit v))
       ≡ with_walked_hart w h (rested section (code_in w.memory) limit v)
   unfolding rest_steps rested
-  rests_run zero w h v there = run_nothing w ∙ nothing w h v there
-    where
-      set_same : (hs : List HartValue) (h : ℕ) (v : HartValue) → slice_get hs h ≡ Some v → hs ≡ set hs h v
-      set_same [] h v e = refl
-      set_same (x ∷ hs) zero v e = ap (λ y. y ∷ hs) (same e)
-        where
-          same : ◌≡◌ {A = Option HartValue} (Some x) (Some v) → x ≡ v
-          same e = cc
-      set_same (x ∷ hs) (suc h) v e = ap (λ (ys : List HartValue). x ∷ ys) (set_same hs h v e)
-
-      nothing : (w : World) (h : ℕ) (v : HartValue) → slice_get w.harts h ≡ Some v → w ≡ with_walked_hart w h v
-      nothing w h v e = ap (λ (hs : List HartValue). record { harts = hs; memory = w.memory; reserved = w.reserved }) (set_same w.harts h v e)
-  rests_run (suc limit) w h v there = by_class (may_walk section (code_in w.memory) v) refl
-    where
-      code : Memory
-      code = code_in w.memory
-
-      set_twice : (hs : List HartValue) (h : ℕ) (a b : HartValue) → set (set hs h a) h b ≡ set hs h b
-      set_twice [] h a b = refl
-      set_twice (x ∷ hs) zero a b = refl
-      set_twice (x ∷ hs) (suc h) a b = ap (λ (ys : List HartValue). x ∷ ys) (set_twice hs h a b)
-
-      by_class : (b : Bool) → may_walk section code v ≡ b
-          → run w (plain_choices h (cond b (suc (rest_steps section code limit (step_alone code v))) 0))
-          ≡ with_walked_hart w h (cond b (rested section code limit (step_alone code v)) v)
-      by_class false is = rests_run zero w h v there
-      by_class true is =
-          let d : Choice = record { hart = h; refuse = false } in
-          let a : HartValue = step_alone code v in
-          let wd : World = with_walked_hart w h a in
-          let leads : step w d ≡ wd = step_rests section w d v there is in
-          run_more w d (plain_choices h (rest_steps section code limit a))
-          ∙ ap (λ x. run x (plain_choices h (rest_steps section code limit a))) leads
-          ∙ rests_run limit wd h a (there_set w.harts h v a there)
-          ∙ ap (λ (hs : List HartValue). record { harts = hs; memory = w.memory; reserved = w.reserved })
-          (set_twice w.harts h a (rested section code limit a))
+  rests_run zero w h v there = run_nothing w ∙ same_hart w h v there
+  rests_run (suc limit) w h v there =
+      let code : Memory = code_in w.memory in
+      let a : HartValue = step_alone code v in
+      elim (cases_Bool (may_walk section code v)) [
+        | inl is ↦
+            let d : Choice = record { hart = h; refuse = false } in
+            let wd : World = with_walked_hart w h a in
+            let leads : step w d ≡ wd = step_rests section w d v there is in
+            let rest : run wd (plain_choices h (rest_steps section (code_in wd.memory) limit a))
+            ≡ with_walked_hart wd h (rested section (code_in wd.memory) limit a)
+            = rests_run limit wd h a (there_set w.harts h v a there) in
+            subst (λ b. run w (plain_choices h (cond b (suc (rest_steps section code limit a)) 0))
+            ≡ with_walked_hart w h (cond b (rested section code limit a) v)) (sym is)
+            (run_more w d (plain_choices h (rest_steps section code limit a))
+            ∙ ap (λ x. run x (plain_choices h (rest_steps section code limit a))) leads ∙ rest
+            ∙ ap (λ (hs : List HartValue). record { harts = hs; memory = w.memory; reserved = w.reserved })
+            (set_twice w.harts h a (rested section code limit a)))
+        | inr no_ ↦
+            subst (λ b. run w (plain_choices h (cond b (suc (rest_steps section code limit a)) 0))
+            ≡ with_walked_hart w h (cond b (rested section code limit a) v)) (sym no_) (run_nothing w ∙ same_hart w h v there)
+      ]
 
   pub settled_is : (w : World) (h : ℕ) → world_settled (stride_of section) w h ≡ rested_by w h (slice_get w.harts h)
   settled_is w h = by_hart (slice_get w.harts h) refl

@@ -22,7 +22,7 @@ use Rattle.explore_bounds.specs.declared.bound.Bound.{Bound}
 use Rattle.explore_bounds.specs.declared.bound.Bound.TheVariants.{After, Never}
 use Rattle.explore_space.specs.Begun.{begun_choices, first_steps, hart_settled, runs_outside_there, runs_settled, settled_start, world_begun}
 use Rattle.explore_space.specs.Bounds.{TellsOwn, later_by}
-use Rattle.explore_space.specs.Resting.{is_clear, is_quiet, stride_of}
+use Rattle.explore_space.specs.Resting.{all_clear, is_quiet, stride_of}
 use Rattle.explore_space.specs.declared.section.Section.{Section}
 use Rattle.explore_space.proofs.AheadLemmas.{AllRun, begun_run}
 use Rattle.explore_space.proofs.BegunLemmas.{begun_count, begun_quiet, own_begun, own_past, run_of_begun, start_covers}
@@ -34,7 +34,7 @@ pub run_has_start : (section : Option Section) (meant : List Choice) (first : Wo
     → All (Contains meant) choices
     → HasTurns (is_quiet section) meant (place_begun (stride_of section) (settled_start section first)) first choices
 run_has_start section meant first choices aligned all =
-    run_has_turns (is_quiet section) is_clear (stride_of section) (section_waits section) meant (settled_start section first) first choices aligned
+    run_has_turns (is_quiet section) all_clear (stride_of section) (section_waits section) meant (settled_start section first) first choices aligned
     (start_covers section first aligned) all (λ turns c are is less. refl)
 
 -- a world that covers another follows it
@@ -42,7 +42,7 @@ pub covered_follow : (section : Option Section) (meant : List Choice) (p : Place
     → AreAligned w → WorldCovers (is_quiet section) p.world w → All (Contains meant) choices
     → (turns : List Choice) × All (Contains meant) turns × WorldCovers (is_quiet section) (place_reached p turns).world (run w choices)
 covered_follow section meant p w choices same aligned covers all =
-    let found = run_has_turns (is_quiet section) is_clear (stride_of section) (section_waits section) meant p.world w choices aligned covers all
+    let found = run_has_turns (is_quiet section) all_clear (stride_of section) (section_waits section) meant p.world w choices aligned covers all
     (λ turns c are is less. refl) in
     let leads : (place_reached (place_begun (stride_of section) p.world) found.turns).world ≡ (place_reached p found.turns).world
     = sym (run_of_turns (stride_of section) p.world found.turns)
@@ -56,8 +56,8 @@ first_alike : (section : Option Section) (w : World) (others : List Choice) (h :
 first_alike section w others h aligned are none =
     let stride = stride_of section in
     let same : stride (run w others) h ≡ stride w h
-    = stride_along (is_quiet section) is_clear stride (section_waits section) w others h aligned are none in
-    let of = past (is_quiet section) is_clear stride (section_waits section) w others (plain_choices h (stride w h)) aligned are
+    = stride_along (is_quiet section) all_clear stride (section_waits section) w others h aligned are none in
+    let of = past (is_quiet section) all_clear stride (section_waits section) w others (plain_choices h (stride w h)) aligned are
     ((section_waits section).strides w h aligned) (apart (stride w h)) in
     let leads : run (hart_settled section w h) others ≡ hart_settled section (run w others) h
     = of.leads ∙ ap (λ n. run (run w others) (plain_choices h n)) (sym same) in

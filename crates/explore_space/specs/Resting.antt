@@ -51,5 +51,5 @@ is_quiet_by section w (Some v) = may_walk section (code_in w.memory) v
 abbrev pub is_quiet : Option Section → OfNextStep
 is_quiet section w h = is_quiet_by section w (slice_get w.harts h)
 
-abbrev pub is_clear : OfNextStep
-is_clear w h = true
+abbrev pub all_clear : OfNextStep
+all_clear w h = true

@@ -11,8 +11,8 @@ ghost use Rattle.machine.specs.State.{state};
 ghost use Rattle.machine.specs.World.{run};
 ghost use Rattle.explore_space.specs.Resting.{stride_of};
 
-use crate::settling::{LocalCode, runs_outside, settle};
 use crate::section::Section;
+use crate::settling::{LocalCode, runs_outside, settle};
 use image::Image;
 use machine::{Choice, Inputs, Machine};
 use mem_flat::FlatStore;

@@ -4,14 +4,14 @@ ghost use Rattle.machine.specs.World.{World};
 ghost use Rattle.property_judge.specs.Property.{harts_between};
 ghost use Rattle.explore_laws.specs.Covering.{WorldCovers};
 ghost use Rattle.explore_laws.specs.Quiet.{CanWait};
-ghost use Rattle.explore_space.specs.Resting.{is_clear, is_quiet, stride_of};
+ghost use Rattle.explore_space.specs.Resting.{all_clear, is_quiet, stride_of};
 ghost use Rattle.explore_space.specs.declared.section.Section.{Section};
 
 /// Local steps can wait, whatever steps of other harts come between: these change no register, and
 /// no code.
 #[tactic(auto, using(crate::proofs::RestLemmas::section_waits))]
 pub fn local_steps_can_wait()
-    ensures { (section : Option Section) → CanWait (is_quiet section) is_clear (stride_of section) }
+    ensures { (section : Option Section) → CanWait (is_quiet section) all_clear (stride_of section) }
 {}
 
 /// No hart stands in a section unseen: at least as many stand in it in each world that covers a

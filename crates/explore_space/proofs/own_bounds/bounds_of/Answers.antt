@@ -13,7 +13,7 @@ use Rattle.explore_space.proofs.OwnBoundLemmas.{below_edges, led_from, some_rows
 use Rattle.explore_space.proofs.StartLemmas.{own_start, told_later}
 use Rattle.explore_space.proofs.own_bounds.bounds_of.Goals as goal
 use Rattle.machine.specs.Chosen.{own}
-use Rattle.explore_space.specs.Resting.{is_clear, is_quiet, stride_of}
+use Rattle.explore_space.specs.Resting.{all_clear, is_quiet, stride_of}
 use Rattle.explore_space.proofs.BegunLemmas.{start_covers}
 use Rattle.explore_space.proofs.EveryLemmas.{start_aligned}
 use Rattle.explore_space.proofs.RestLemmas.{section_waits}
@@ -63,7 +63,7 @@ harts-preserved g c =
     let led = subst (λ (p : Place). AreLedTo c.args.meant.now p place c.args.seen.now.keys) c.requires.first
     (led_from keys place _ c.args.meant.now c.args.seen.now.keys c.args.seen.now.links.items c.requires.seen c.requires.reaches) in
     let tells : TellsBound c.args.meant.now first start (own covers.choices hart) hart c.in_ok-bound.bound
-    = c.in_ok-bound.ensures (is_quiet section) is_clear (stride_of section) (section_waits section) first start aligned covers place
+    = c.in_ok-bound.ensures (is_quiet section) all_clear (stride_of section) (section_waits section) first start aligned covers place
     c.args.seen.now.keys c.requires.meant.plain (c.requires.meant.each hart (omega (arith, low, end))) (λ k key d e f. refl)
     led c.requires.edges c.in_ok-steps.ensures in
     record {
