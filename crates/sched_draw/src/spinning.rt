@@ -120,17 +120,21 @@ fn is_fence(instruction: Result<Instr, FetchFault>) -> bool
     matches!(instruction, Ok(Instr::Fence { .. }))
 }
 
-// Whether a hart runs and comes to a `pause`. A memory has its instructions at hand, and its words
-// hardly, so the word is read only where there is a fence.
+// Whether a hart runs and comes to a `pause`. Many choices are of harts that have stopped, so that is
+// asked first. A memory has its instructions at hand, and its words hardly, so the word is read only
+// where there is a fence.
 #[inline]
 #[tactic(auto, unfolding(crate::specs::Spinning::pauses))]
 fn pauses<S: Store>(store: &S, now: &Hart) -> bool
     ensures { result ≡ pauses (S.memory store.now) (hart_of now.now) }
 {
+    if !is_running(now) {
+        return false;
+    }
     if !is_fence(store.instruction(now.pc)) {
         return false;
     }
-    is_running(now) && store.fetch(now.pc) == Some(PAUSE)
+    store.fetch(now.pc) == Some(PAUSE)
 }
 
 /// Looks at a hart that is chosen, and returns whether it waits: it spins or pauses.
