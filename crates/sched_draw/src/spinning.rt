@@ -33,7 +33,9 @@ pub(crate) struct Watch {
     span: u32,
 }
 
-// Whether a hart has the same registers as before.
+// Whether a hart has the same registers as before. Asked for at few choices, so it isn't inlined:
+// what is asked at each of them then is.
+#[inline(never)]
 #[tactic(auto, using(crate::proofs::SpinLemmas::no_register, crate::proofs::SpinLemmas::register_more))]
 fn has_registers_of(seen: &Hart, now: &Hart) -> bool
     ensures { result
@@ -96,6 +98,7 @@ impl Watch {
 }
 
 // Looks at a hart that is chosen, and returns whether it spins.
+#[inline]
 fn look(watch: &mut Option<Watch>, hart: u32, now: &Hart) -> bool
     ensures spins { result ≡ spins (option_map watch_of watch.old) hart (hart_of now.now) }
     ensures watch { option_map watch_of watch.new
