@@ -1,16 +1,13 @@
 -- By priorities: a hart goes on while it is the first that runs.
-use Rattle.std.proofs.Common.{◌≡◌, ◌≢◌, ℕ, zero, suc, ◌+◌, ◌-◌, ◌<◌, ◌≤◌, ◌==◌, Bool, true, false, ◌||◌, List, [], ◌∷◌, Option, Some, None, set, refl, arith, ap, ap₂, sym, subst, ◌∙◌, if◌then◌else◌, true≢false}
-use Rattle.std.proofs.lemmas.Bool.{eq-eqb, eqb-true, ne_eqb}
-use Rattle.std.specs.List.{All, slice_get}
-use Rattle.rand_pcg.specs.Lcg.{Lcg}
+use Rattle.std.proofs.Common.{◌≡◌, ◌≢◌, ℕ, zero, suc, ◌==◌, Bool, true, false, List, [], ◌∷◌, Option, Some, None, set, refl, ap, ap₂, sym, subst, ◌∙◌, if◌then◌else◌, true≢false}
+use Rattle.std.proofs.lemmas.Bool.{eq-eqb, eqb-true}
+use Rattle.std.specs.List.{slice_get}
 use Rattle.rand_pcg.specs.Pcg.{pcg32}
 use Rattle.hart_step.specs.Hart.{HartValue}
 use Rattle.machine.specs.Running.{goes, runs}
 use Rattle.machine.specs.World.{World, step_of, step}
 use Rattle.machine.specs.declared.choice.Choice.{Choice}
-use Rattle.sched_draw.specs.declared.refusals.Refusals.{Refusals}
-use Rattle.sched_draw.specs.Priorities.{PriorityDrawing, first_running, fallen, is_point, order_after, after_priority_choice}
-use Rattle.sched_draw.proofs.PriorityLemmas.{left_behind}
+use Rattle.sched_draw.specs.Priorities.{PriorityDrawing, first_running, fallen, is_point, after_priority_choice}
 
 -- ---- a step of a hart changes no other one
 set-others : (xs : List HartValue) (i k : ℕ) (x : HartValue) → k ≢ i → slice_get (set xs i x) k ≡ slice_get xs k

@@ -12,6 +12,7 @@ ghost use Rattle.machine.specs.Running.{runs};
 ghost use Rattle.machine.specs.World.{World};
 ghost use Rattle.sched_run.specs.Chosen.{harts_of};
 ghost use Rattle.sched_draw.specs.Partway.{LeadsOn};
+ghost use Rattle.sched_draw.specs.Refusing.{is_refused};
 ghost use Rattle.sched_draw.specs.Priorities.{is_point, priority_choices_drawn, priority_choices, waiting_fallen, after_watched_choice};
 ghost use Rattle.sched_draw.specs.Drawn.{drawing, drawing_watched};
 ghost use Rattle.sched_draw.specs.NoSteps.{no_priorities};
@@ -19,7 +20,7 @@ ghost use Rattle.sched_draw.specs.NoSteps.{no_priorities};
 use crate::chooser::Chooser;
 use crate::even::seeded_generator;
 use crate::order::Depth;
-use crate::refusals::Refusals;
+use crate::refusals::{OneIn16, Refusals, Rule};
 use crate::spinning::{Watch, waits};
 use hart_step::Hart;
 use machine::{Choice, Machine, runs};
@@ -290,11 +291,13 @@ impl<A: Allocator> ByPriorities<A> {
     // hart, with no look through the order and the change points. Also whether the hart waits, and
     // so falls.
     #[inline]
-    fn go_on<S: Store, B: Allocator>(
+    fn go_on<R: Rule, S: Store, B: Allocator>(
         &mut self,
+        rule: R,
         hart: u32,
         machine: &Machine<S, B>,
     ) -> Result<(Choice, bool), AllocError>
+        requires same { (word : ℕ) → R.refused rule word ≡ is_refused self.old.refusals word }
         requires there { hart < length (world S.memory machine.now).harts }
         requires first { hart ≡ first_running (world S.memory machine.now).harts
             self.old.priorities.value.order.items }
@@ -315,7 +318,7 @@ impl<A: Allocator> ByPriorities<A> {
         let does_wait = waits(&mut self.watch, hart, now, machine.store());
         let word = self.priorities.draw_word();
         self.priorities.let_waiting_fall(hart, does_wait)?;
-        let refuse = self.refusals.refuses(word);
+        let refuse = rule.does_refuse(word);
         Ok((Choice { hart, refuse }, does_wait))
     }
 
@@ -323,7 +326,53 @@ impl<A: Allocator> ByPriorities<A> {
     // between: as long as it doesn't wait and goes on. Returns the step that follows. Inlined, since
     // a call at each step would take longer than the choice.
     #[inline(always)]
-    fn run_first<S: Store, B: Allocator>(
+    fn run_first<R: Rule, S: Store, B: Allocator>(
+        &mut self,
+        rule: R,
+        machine: &mut Machine<S, B>,
+        chosen: &mut Chosen,
+        from: u64,
+        to: u64,
+    ) -> Result<u64, AllocError>
+        requires few { length (world S.memory machine.old).harts ≤ most_harts }
+        requires some { 0 < length (world S.memory machine.old).harts }
+        requires there { All (λ h. h < length (world S.memory machine.old).harts)
+            self.old.priorities.value.order.items }
+        requires ahead { from < to }
+        requires quiet { (place : ℕ) → from ≤ place → place < to
+            → is_point place self.old.priorities.value.points.items ≡ false }
+        requires same { (word : ℕ) → R.refused rule word ≡ is_refused self.old.refusals word }
+        ensures ahead { IfOk result (λ step. from < step) }
+        ensures within { IfOk result (λ step. step ≤ to) }
+        ensures harts { IfOk result (λ _. length (world S.memory machine.new).harts
+            ≡ length (world S.memory machine.old).harts) }
+        ensures stays { IfOk result (λ _. All (λ h. h < length (world S.memory machine.old).harts)
+            self.new.priorities.value.order.items) }
+        ensures ran { IfOk result (λ step. (steps : ℕ) → to ≤ steps → LeadsOn
+            (priority_choices_drawn self.old.refusals from (steps - from) (drawing_watched self.old)
+            (world S.memory machine.old))
+            (world S.memory machine.old) (harts_of chosen.old)
+            (priority_choices_drawn self.new.refusals step (steps - step) (drawing_watched self.new)
+            (world S.memory machine.new))
+            (world S.memory machine.new) (harts_of chosen.new)) }
+    {
+        let hart = first_running(&self.priorities.order, machine.ends());
+        let goes = runs(machine.ends(), hart);
+        let mut stays = true;
+        let mut step = from;
+        'steps: while stays && step < to {
+            let (choice, does_wait) = self.go_on(rule, hart, machine)?;
+            chosen.add(hart as usize);
+            machine.step(choice)?;
+            step += 1;
+            stays = goes_on(does_wait, machine.ends(), hart, goes);
+        }
+        Ok(step)
+    }
+
+    // As `run_first`, by the rule of the refusals.
+    #[inline(always)]
+    fn run_quiet<S: Store, B: Allocator>(
         &mut self,
         machine: &mut Machine<S, B>,
         chosen: &mut Chosen,
@@ -351,18 +400,12 @@ impl<A: Allocator> ByPriorities<A> {
             (world S.memory machine.new))
             (world S.memory machine.new) (harts_of chosen.new)) }
     {
-        let hart = first_running(&self.priorities.order, machine.ends());
-        let goes = runs(machine.ends(), hart);
-        let mut stays = true;
-        let mut step = from;
-        'steps: while stays && step < to {
-            let (choice, does_wait) = self.go_on(hart, machine)?;
-            chosen.add(hart as usize);
-            machine.step(choice)?;
-            step += 1;
-            stays = goes_on(does_wait, machine.ends(), hart, goes);
+        let refusals = self.refusals;
+        if refusals.is_usual() {
+            self.run_first(OneIn16, machine, chosen, from, to)
+        } else {
+            self.run_first(refusals, machine, chosen, from, to)
         }
-        Ok(step)
     }
 
     // Takes one step or more, from one up to another at most, and returns the step that follows.
@@ -395,7 +438,7 @@ impl<A: Allocator> ByPriorities<A> {
     {
         let quiet = self.priorities.next_point(from, to);
         if from < quiet {
-            return self.run_first(machine, chosen, from, quiet);
+            return self.run_quiet(machine, chosen, from, quiet);
         }
         let choice = self.next(from, machine)?;
         chosen.add(choice.hart as usize);

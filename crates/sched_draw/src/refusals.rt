@@ -65,8 +65,7 @@ impl Rule for Refusals {
     }
 }
 
-/// The rule of the usual refusals. It asks for no chance, so that a step of most campaigns takes 10
-/// host instructions less.
+/// The rule of the usual refusals, which most campaigns have. It asks for no chance at each step.
 #[derive(Clone, Copy, Drop)]
 pub(crate) struct OneIn16;
 

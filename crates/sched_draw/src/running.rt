@@ -140,7 +140,7 @@ fn run_by<S: Store, A: Allocator, C: Chooser>(
 }
 
 // Whether each of these harts has stopped and was chosen: no choice of them does more. Inlined it
-// would take registers from the steps: one in bursts would take 5 more host instructions.
+// would take registers from the steps.
 #[inline(never)]
 fn is_over(span: Range<u32>, harts: &[Hart], chosen: &Chosen) -> bool
     requires { span.end ≤ most_harts }

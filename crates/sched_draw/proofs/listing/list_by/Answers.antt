@@ -1,4 +1,4 @@
-use Rattle.std.proofs.Common.{◌≡◌, ◌-◌, ◌+◌, ◌<◌, arith, ap, ap₂, ◌∷◌, length, sym, subst, ◌∙◌}
+use Rattle.std.proofs.Common.{◌≡◌, ◌-◌, ◌+◌, ◌<◌, arith, ap, ap₂, ◌∷◌, sym, subst, ◌∙◌}
 use Rattle.std.specs.List.{All}
 use Rattle.machine.specs.Machine.{world}
 use Rattle.sched_draw.specs.Drawn.{drawing_watched}

@@ -1,4 +1,4 @@
-use Rattle.std.proofs.Common.{◌≡◌, ◌-◌, ◌+◌, arith, ap, sym, subst, ◌∙◌}
+use Rattle.std.proofs.Common.{◌-◌, arith, ap, sym, subst, ◌∙◌}
 use Rattle.machine.specs.Machine.{world}
 use Rattle.sched_run.specs.Chosen.{harts_of}
 use Rattle.sched_draw.specs.Bursts.{BurstDrawing, burst_choices_drawn}

@@ -1,4 +1,4 @@
-use Rattle.std.proofs.Common.{◌≡◌, ◌||◌, ap, option_map, ◌∙◌}
+use Rattle.std.proofs.Common.{◌||◌, ap, option_map, ◌∙◌}
 use Rattle.rand_pcg.specs.Pcg.{pcg32}
 use Rattle.hart_step.specs.Hart.{hart_of}
 use Rattle.machine.specs.Machine.{world}
@@ -16,13 +16,13 @@ returns-clause-choice g c =
     (pcg32 d.generator).1 c.requires.first
     (ap (λ n. (n, (pcg32 d.generator).1))
     (c.draw_word-word.ensures.word ∙ ap (λ p. (pcg32 (drawing p).generator).0) c.deref_mut.ensures.value))
-    c.refuses-refuse.result c.refuses-refuse.ensures
+    c.does_refuse-refuse.result (c.does_refuse-refuse.ensures ∙ c.requires.same c.draw_word-word.result)
 
 pub returns-clause-state : goal.returns-clause-state
 returns-clause-state g c = λ place none.
     let w = world g.S.Store.memory c.args.machine.now in
     gone_on c.args.self.now.refusals place w (drawing_watched c.args.self.now)
-    (record { hart = c.args.hart; refuse = c.refuses-refuse.result }) (hart_of c.hart-now.result.now)
+    (record { hart = c.args.hart; refuse = c.does_refuse-refuse.result }) (hart_of c.hart-now.result.now)
     (drawing c.draw_word-word.new.self) (drawing c.let_waiting_fall.new.self) c.waits-does_wait.result
     (option_map watch_of c.waits-does_wait.new.watch) (returns-clause-choice g c) c.hart-now.ensures
     (c.draw_word-word.ensures.state

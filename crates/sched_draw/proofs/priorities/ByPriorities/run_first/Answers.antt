@@ -26,6 +26,7 @@ steps-init g c =
       first = λ is. first;
       goes = λ is. c.runs-goes.ensures ∙ ap (λ hs. runs hs c.first_running-hart.result) c.ends-2.ensures;
       points = refl;
+      refusals = refl;
       begun = omega arith;
       moved = λ is. absurd (cc);
       within = omega (arith, ahead);
@@ -57,6 +58,7 @@ steps-preserved g c =
           (c.in_ok-choice.ensures.order (c.goes_on-stays.ensures.awake is));
       goes = λ is. sym (ap (λ hs. runs hs c.first_running-hart.result) (sym c.ends-in-steps.ensures) ∙ c.goes_on-stays.ensures.same is);
       points = c.in_ok-choice.ensures.points ∙ c.steps.invariant.points;
+      refusals = c.in_ok-choice.ensures.refusals ∙ c.steps.invariant.refusals;
       begun = omega (arith, begun);
       moved = λ is. omega (arith, begun);
       within = omega (arith, below);

@@ -17,6 +17,7 @@ invariant-steps g l = record {
   first : l.stays ≡ true → l.hart ≡ first_running (world g.S.Store.memory l.machine).harts l.self.priorities.value.order.items;
   goes : l.stays ≡ true → l.goes ≡ runs (world g.S.Store.memory l.machine).harts l.hart;
   points : l.self.priorities.value.points.items ≡ l.fn.self.priorities.value.points.items;
+  refusals : l.self.refusals ≡ l.fn.self.refusals;
   begun : l.from ≤ l.step;
   moved : l.stays ≡ false → l.from < l.step;
   within : l.step ≤ l.to;
