@@ -8,6 +8,7 @@ use Rattle.rand_pcg.specs.Lcg.{Lcg}
 use Rattle.rand_pcg.specs.Pcg.{pcg32}
 use Rattle.sched_draw.specs.Refusing.{is_refused}
 use Rattle.sched_draw.specs.declared.refusals.Refusals.{Refusals}
+use Rattle.sched_draw.specs.NoSteps.{no_bursts}
 use Rattle.sched_draw.specs.Bursts.{BurstDrawing, burst_drawn, in_burst, next_burst_choice, after_burst_choice, burst_choices_drawn, burst_drawing, burst_choices}
 
 -- a burst ends where none of its choices is left
@@ -113,6 +114,34 @@ pub drawn-next : (n : ℕ) (d e : BurstDrawing) (c : Choice) → c ≡ next_burs
 drawn-next n d e c choice state =
     let s : n + 1 ≡ suc n = omega arith in
     ap (λ k. burst_choices_drawn k d) s ∙ drawn-suc n d ∙ ap₂ (λ x y. x ∷ burst_choices_drawn n y) (sym choice) (sym state)
+
+-- a burst that has begun is that of the next choice
+in_burst-some : (d : BurstDrawing) → 0 < (in_burst d).left
+unfolding burst_drawn
+in_burst-some d = stands d d.left refl
+  where
+    stands : (d : BurstDrawing) (n : ℕ) → d.left ≡ n → 0 < (in_burst d).left
+    stands d zero is = rw (begun d is) (omega arith)
+    stands d (suc n) is = rw (same d (λ none. absurd (omega (arith, none, is)))) (omega (arith, is))
+
+again : (d : BurstDrawing) → in_burst (in_burst d) ≡ in_burst d
+again d = let some = in_burst-some d in same (in_burst d) (λ none. absurd (omega (arith, some, none)))
+
+pub next-again : (d : BurstDrawing) → next_burst_choice (in_burst d) ≡ next_burst_choice d
+unfolding next_burst_choice
+next-again d =
+    ap₂ {A = BurstDrawing} {B = Refusals} {C = Choice} (λ b r. record { hart = b.hart; refuse = is_refused r (pcg32 b.generator).0 })
+    (again d) (in_burst-refusals d)
+
+pub after-again : (d : BurstDrawing) → after_burst_choice (in_burst d) ≡ after_burst_choice d
+unfolding after_burst_choice
+after-again d = ap {A = BurstDrawing} (λ b. record b { left = b.left - 1; generator = (pcg32 b.generator).1 }) (again d)
+
+-- the choices are those that are drawn once their burst has begun
+pub drawn-again : (n : ℕ) (d : BurstDrawing) → burst_choices_drawn n (in_burst d) ≡ burst_choices_drawn n d
+drawn-again zero d = no_bursts (in_burst d) ∙ sym (no_bursts d)
+drawn-again (suc n) d =
+    drawn-suc n (in_burst d) ∙ ap₂ (λ c b. c ∷ burst_choices_drawn n b) (next-again d) (after-again d) ∙ sym (drawn-suc n d)
 
 after-left : (d : BurstDrawing) → (after_burst_choice d).left ≡ (in_burst d).left - 1
 unfolding after_burst_choice

@@ -3,6 +3,7 @@ pub mod RefusalLemmas
 pub mod BurstLemmas
 pub mod SpinLemmas
 pub mod PriorityLemmas
+pub mod FirstLemmas
 pub mod TurnLemmas
 pub mod ChoiceLemmas
 pub mod ChooserLemmas

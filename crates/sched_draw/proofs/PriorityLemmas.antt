@@ -245,7 +245,7 @@ first-among P harts (h ∷ xs) ys k all there going =
     either true going later = rw (first-head harts h (xs ++ ys) going) (All-head P h xs all)
     either false stopped later = rw (first-next harts h (xs ++ ys) stopped) (later stopped)
 
-first-below : (n : ℕ) (harts : List HartValue) (order : List ℕ) → 0 < n → All (λ h. h < n) order → first_running harts order < n
+pub first-below : (n : ℕ) (harts : List HartValue) (order : List ℕ) → 0 < n → All (λ h. h < n) order → first_running harts order < n
 first-below n harts [] some all = some
 first-below n harts (h ∷ order) some all =
     either (runs harts h) refl (first-below n harts order some (All-tail (λ k. k < n) h order all))

@@ -12,3 +12,9 @@ pub record Partway (all left : List Choice) (old now : World) (chosen : Harts) :
   pub order : all ≡ done ++ left
   pub led : now ≡ run old done
   pub told : (k : ℕ) → chosen k ≡ is_chosen done k
+
+-- a run that was on its way has come further: from a world where these choices are left to one where
+-- those are left
+abbrev pub LeadsOn : List Choice → World → Harts → List Choice → World → Harts → Type 0
+LeadsOn left before chosen next after more =
+    (all : List Choice) (old : World) → Partway all left old before chosen → Partway all next old after more

@@ -1,17 +1,21 @@
-//! The sources of a run's choices, one choice at a time.
+//! The sources of a run's choices.
 
-ghost use Rattle.std.specs.Prelude.{◌≡◌, ◌+◌, ◌<◌, ◌≤◌, ℕ, List, [], ◌∷◌, IfOk, length};
+ghost use Rattle.std.specs.Prelude.{◌≡◌, ◌+◌, ◌-◌, ◌<◌, ◌≤◌, ℕ, List, [], ◌∷◌, IfOk, length};
 ghost use Rattle.std.specs.List.{All};
+ghost use Rattle.hart_reservations.specs.Limit.{most_harts};
 ghost use Rattle.machine.specs.Machine.{world};
-ghost use Rattle.machine.specs.World.{World, step as stepped};
+ghost use Rattle.machine.specs.World.{World};
 ghost use Rattle.machine.specs.declared.choice.Choice.{Choice};
+ghost use Rattle.sched_run.specs.Chosen.{harts_of};
+ghost use Rattle.sched_draw.specs.Partway.{LeadsOn};
 
 use machine::{Choice, Machine};
 use mem_store::Store;
+use sched_run::Chosen;
 use std::alloc::{AllocError, Allocator};
 use std::ops::Range;
 
-/// A source of a run's choices. Each is asked for when its step comes.
+/// A source of a run's choices. Each is made when its step comes.
 pub trait Chooser: Drop {
     /// The next choices, from a step and a world on.
     ghost choices: { Self → ℕ → ℕ → World → List Choice };
@@ -19,20 +23,26 @@ pub trait Chooser: Drop {
     /// Whether it chooses among this number of harts.
     ghost IsFor: { Self → ℕ → Type 0 };
 
-    /// The choice at a step of a machine's run. The only error is out of memory.
-    fn next<S: Store, A: Allocator>(
+    /// Takes the steps of a machine's run from one up to another, and marks the harts that it
+    /// chooses. The only error is out of memory.
+    fn run<S: Store, A: Allocator>(
         &mut self,
-        step: u64,
-        machine: &Machine<S, A>,
-    ) -> Result<Choice, AllocError>
-        requires { IsFor self.old (length (world S.memory machine.now).harts) }
-        ensures chooses { IfOk result (λ choice. (n : ℕ)
-            → choices self.old step (n + 1) (world S.memory machine.now)
-            ≡ choice ∷ choices self.new (step + 1) n (stepped (world S.memory machine.now) choice)) }
-        ensures within { IfOk result (λ choice.
-            choice.hart < length (world S.memory machine.now).harts) }
-        ensures stays { IfOk result (λ _.
-            IsFor self.new (length (world S.memory machine.now).harts)) };
+        machine: &mut Machine<S, A>,
+        chosen: &mut Chosen,
+        from: u64,
+        to: u64,
+    ) -> Result<(), AllocError>
+        requires few { length (world S.memory machine.old).harts ≤ most_harts }
+        requires is_for { IsFor self.old (length (world S.memory machine.old).harts) }
+        requires ahead { from ≤ to }
+        ensures harts { IfOk result (λ _. length (world S.memory machine.new).harts
+            ≡ length (world S.memory machine.old).harts) }
+        ensures stays { IfOk result (λ _. IsFor self.new (length (world S.memory machine.old).harts)) }
+        ensures ran { IfOk result (λ _. (steps : ℕ) → to ≤ steps → LeadsOn
+            (choices self.old from (steps - from) (world S.memory machine.old))
+            (world S.memory machine.old) (harts_of chosen.old)
+            (choices self.new to (steps - to) (world S.memory machine.new))
+            (world S.memory machine.new) (harts_of chosen.new)) };
 
     /// The harts that it can choose from now on, of this number of harts.
     fn span(&self, harts: u32) -> Range<u32>
@@ -80,13 +90,21 @@ impl<D: Drawer> Chooser for Same<D> {
 
     ghost none = { λ c step _. D.none c.0 step };
 
+    // Inlined, so that the drawer stays in registers.
     #[inline(always)]
-    fn next<S: Store, A: Allocator>(
+    fn run<S: Store, A: Allocator>(
         &mut self,
-        step: u64,
-        _machine: &Machine<S, A>,
-    ) -> Result<Choice, AllocError> {
-        Ok(self.0.draw(step))
+        machine: &mut Machine<S, A>,
+        chosen: &mut Chosen,
+        from: u64,
+        to: u64,
+    ) -> Result<(), AllocError> {
+        'steps: for step in from..to {
+            let choice = self.0.draw(step);
+            chosen.add(choice.hart as usize);
+            machine.step(choice)?;
+        }
+        Ok(())
     }
 
     fn span(&self, _harts: u32) -> Range<u32> {

@@ -1,13 +1,16 @@
 //! The choices of a schedule as a list.
 
 ghost use Rattle.std.specs.Prelude.{◌≡◌, ◌<◌, true, false, IfOk, length};
+ghost use Rattle.std.specs.List.{All};
 ghost use Rattle.machine.specs.Machine.{world};
 ghost use Rattle.machine.specs.World.{World};
+ghost use Rattle.sched_draw.specs.Drawn.{drawing_watched};
+ghost use Rattle.sched_draw.specs.Priorities.{priority_choices_drawn};
 ghost use Rattle.sched_draw.specs.Schedules.{choices_of, drawn_choices, follows, follows_run, is_mixed, is_of_harts, ordered_choices};
 ghost use Rattle.sched_draw.specs.declared.change_points.ChangePoints.{ChangePoints};
 
 use crate::bursts::Bursts;
-use crate::chooser::{Chooser, Drawer};
+use crate::chooser::Drawer;
 use crate::even::Even;
 use crate::mixed::draw_of_seed;
 use crate::order::Order;
@@ -148,16 +151,18 @@ fn list_ordered_run<S: Store, A: Allocator + Copy>(
     }
 }
 
-// The choices of a machine's run, each made when its step comes.
-fn list_by<S: Store, A: Allocator, C: Chooser>(
+// The choices by priorities of a machine's run, each made when its step comes.
+fn list_by<S: Store, A: Allocator>(
     alloc: A,
     machine: &mut Machine<S, A>,
-    chooser: C,
+    chooser: ByPriorities<A>,
     steps: u64,
 ) -> Result<Vec<Choice, A>, AllocError>
-    requires { C.IsFor chooser (length (world S.memory machine.old).harts) }
-    ensures { IfOk result (λ choices.
-        choices.items ≡ C.choices chooser 0 steps (world S.memory machine.old)) }
+    requires some { 0 < length (world S.memory machine.old).harts }
+    requires there { All (λ h. h < length (world S.memory machine.old).harts)
+        chooser.priorities.value.order.items }
+    ensures { IfOk result (λ choices. choices.items ≡ priority_choices_drawn chooser.refusals 0 steps
+        (drawing_watched chooser) (world S.memory machine.old)) }
 {
     let mut chooser = chooser;
     let mut choices = Vec::with_capacity(alloc, steps as usize)?;

@@ -1,9 +1,19 @@
 //! Which drawn words refuse a store-conditional.
 
-ghost use Rattle.std.specs.Prelude.{◌≡◌, ◌%◌, ◌==◌, ◌↔◌, true};
+ghost use Rattle.std.specs.Prelude.{◌≡◌, ◌/◌, ◌%◌, ◌==◌, ◌↔◌, ℕ, Bool, true};
 ghost use Rattle.sched_draw.specs.Refusing.{is_refused, IsOneIn};
 
 use crate::chance::Chance;
+
+/// A rule by which drawn words refuse.
+pub(crate) trait Rule: Copy {
+    /// Whether a word refuses.
+    ghost refused: { Self → ℕ → Bool };
+
+    /// Whether a word refuses.
+    fn does_refuse(self, word: u32) -> bool
+        ensures { result ≡ refused self word };
+}
 
 /// Which choices of a drawn schedule refuse a store-conditional.
 #[derive(Clone, Copy, Drop)]
@@ -43,6 +53,28 @@ impl Refusals {
             Refusals::Never => false,
             Refusals::OneIn(chance) => is_multiple(word / 65536, chance),
         }
+    }
+}
+
+impl Rule for Refusals {
+    ghost refused = { is_refused };
+
+    #[inline]
+    fn does_refuse(self, word: u32) -> bool {
+        self.refuses(word)
+    }
+}
+
+/// The rule of the usual refusals, which most campaigns have. It asks for no chance at each step.
+#[derive(Clone, Copy, Drop)]
+pub(crate) struct OneIn16;
+
+impl Rule for OneIn16 {
+    ghost refused = { λ _ word. word / 65536 % 16 == 0 };
+
+    #[inline]
+    fn does_refuse(self, word: u32) -> bool {
+        word / 65536 % 16 == 0
     }
 }
 

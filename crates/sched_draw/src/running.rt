@@ -99,11 +99,7 @@ fn run_in_order<S: Store, A: Allocator + Copy>(
                 run_by(machine, Same(Even::new(harts, refusals, seed)), steps)
             }
         }
-        Order::Bursts(mean) => run_by(
-            machine,
-            Same(Bursts::new(harts, mean, refusals, seed)),
-            steps,
-        ),
+        Order::Bursts(mean) => run_by(machine, Bursts::new(harts, mean, refusals, seed), steps),
         Order::Priorities(depth) => {
             let places = draw.points.places(steps);
             let chooser = ByPriorities::new(alloc, harts, depth, refusals, places, seed)?;
@@ -130,7 +126,7 @@ fn run_by<S: Store, A: Allocator, C: Chooser>(
     let mut from = 0;
     'stretches: while from < steps {
         let to = from + (steps - from).min(STRETCH);
-        run_some(machine, &mut chooser, &mut chosen, from, to)?;
+        chooser.run(machine, &mut chosen, from, to)?;
         if is_over(
             chooser.span(machine.harts() as u32),
             machine.ends(),
@@ -143,37 +139,8 @@ fn run_by<S: Store, A: Allocator, C: Chooser>(
     Ok(chosen)
 }
 
-// Takes the steps from one up to another. Inlined, so that the chooser stays in registers.
-#[inline(always)]
-fn run_some<S: Store, A: Allocator, C: Chooser>(
-    machine: &mut Machine<S, A>,
-    chooser: &mut C,
-    chosen: &mut Chosen,
-    from: u64,
-    to: u64,
-) -> Result<(), AllocError>
-    requires few { length (world S.memory machine.old).harts ≤ most_harts }
-    requires chooses { C.IsFor chooser.old (length (world S.memory machine.old).harts) }
-    requires ahead { from ≤ to }
-    ensures harts { IfOk result (λ _. length (world S.memory machine.new).harts
-        ≡ length (world S.memory machine.old).harts) }
-    ensures chooses { IfOk result (λ _. C.IsFor chooser.new (length (world S.memory machine.old).harts)) }
-    ensures ran { IfOk result (λ _. (all : List Choice) (old : World) (steps : ℕ) → to ≤ steps
-        → Partway all (C.choices chooser.old from (steps - from) (world S.memory machine.old)) old
-        (world S.memory machine.old) (harts_of chosen.old)
-        → Partway all (C.choices chooser.new to (steps - to) (world S.memory machine.new)) old
-        (world S.memory machine.new) (harts_of chosen.new)) }
-{
-    'steps: for step in from..to {
-        let choice = chooser.next(step, machine)?;
-        chosen.add(choice.hart as usize);
-        machine.step(choice)?;
-    }
-    Ok(())
-}
-
 // Whether each of these harts has stopped and was chosen: no choice of them does more. Inlined it
-// would take registers from the steps: one in bursts would take 5 more host instructions.
+// would take registers from the steps.
 #[inline(never)]
 fn is_over(span: Range<u32>, harts: &[Hart], chosen: &Chosen) -> bool
     requires { span.end ≤ most_harts }

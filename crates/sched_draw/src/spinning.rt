@@ -1,24 +1,26 @@
-//! Harts that wait. One spins: a hart that is chosen again and again is compared with how it was some
-//! choices before, and with the same `pc` and registers it is likely to wait for something that
-//! hasn't changed. Another says so, by `pause`.
+//! Harts that wait. One spins: a hart that is chosen again and again is compared with how it was
+//! some choices before, and with the same `pc` and registers it is likely to wait for something
+//! that hasn't changed. Another says so, by `pause`.
 
-ghost use Rattle.std.specs.Prelude.{◌≡◌, ◌||◌, true, Some, Ok};
+ghost use Rattle.std.specs.Prelude.{◌≡◌, ◌||◌, true, Some};
 ghost use Rattle.std.specs.Option.{option_map};
 ghost use Rattle.hart_step.specs.Hart.{hart_of};
-ghost use Rattle.isa_table.specs.declared.instr.Instr.TheVariants.{Fence};
+ghost use Rattle.mem_store.specs.Access.{fetched};
 ghost use Rattle.machine.specs.Running.{is_running};
 ghost use Rattle.sched_draw.specs.Drawn.{watch_of};
-ghost use Rattle.sched_draw.specs.Spinning.{is_back, same_registers, watch_begun, watch_continued, watch_after, spins, pauses};
+ghost use Rattle.sched_draw.specs.Spinning.{is_back, same_registers, watch_begun, watch_continued, watch_after, spins, is_pause, pauses};
 
 use hart_step::{Hart, HartState};
-use isa_table::Instr;
-use mem_store::{FetchFault, Store};
+use mem_store::Store;
 
 // At most so many choices of a hart don't change how it is remembered: a loop of 65 steps is noticed.
 const LONGEST: u32 = 64;
 
 // The word of `pause`, which is `fence w,0` (Unprivileged ISA, "Zihintpause").
 const PAUSE: u32 = 0x0100_000f;
+
+// Its first byte, as of each fence.
+const FIRST_BYTE: u8 = 0x0f;
 
 /// A hart that is watched.
 #[derive(Clone, Copy, Drop)]
@@ -33,7 +35,9 @@ pub(crate) struct Watch {
     span: u32,
 }
 
-// Whether a hart has the same registers as before.
+// Whether a hart has the same registers as before. Asked for at few choices, so it isn't inlined:
+// what is asked at each of them then is.
+#[inline(never)]
 #[tactic(auto, using(crate::proofs::SpinLemmas::no_register, crate::proofs::SpinLemmas::register_more))]
 fn has_registers_of(seen: &Hart, now: &Hart) -> bool
     ensures { result
@@ -96,6 +100,7 @@ impl Watch {
 }
 
 // Looks at a hart that is chosen, and returns whether it spins.
+#[inline]
 fn look(watch: &mut Option<Watch>, hart: u32, now: &Hart) -> bool
     ensures spins { result ≡ spins (option_map watch_of watch.old) hart (hart_of now.now) }
     ensures watch { option_map watch_of watch.new
@@ -112,25 +117,34 @@ fn look(watch: &mut Option<Watch>, hart: u32, now: &Hart) -> bool
     false
 }
 
-// Whether an instruction is a fence, as `pause` is.
+// Whether the byte at an address is the first of `pause`.
 #[inline]
-fn is_fence(instruction: Result<Instr, FetchFault>) -> bool
-    ensures { instruction ≡ Ok (Fence 0 1 0 0 0) → result ≡ true }
+fn begins_pause<S: Store>(store: &S, address: u32) -> bool
+    ensures { is_pause (fetched (S.memory store.now) address) ≡ true → result ≡ true }
 {
-    matches!(instruction, Ok(Instr::Fence { .. }))
+    match store.peek(address) {
+        Some(byte) => byte == FIRST_BYTE,
+        None => false,
+    }
 }
 
-// Whether a hart runs and comes to a `pause`. A memory has its instructions at hand, and its words
-// hardly, so the word is read only where there is a fence.
+// Whether a hart runs and comes to a `pause`. Many choices are of harts that have stopped, so that
+// is asked first. Then one byte is read, and the word only where that is the first of a fence. The
+// decoded instruction would be at hand too, but a second call of `instruction` beside that of the
+// step keeps the compiler from inlining it there: a step of each schedule would take 6 host
+// instructions more.
 #[inline]
 #[tactic(auto, unfolding(crate::specs::Spinning::pauses))]
 fn pauses<S: Store>(store: &S, now: &Hart) -> bool
     ensures { result ≡ pauses (S.memory store.now) (hart_of now.now) }
 {
-    if !is_fence(store.instruction(now.pc)) {
+    if !is_running(now) {
         return false;
     }
-    is_running(now) && store.fetch(now.pc) == Some(PAUSE)
+    if !begins_pause(store, now.pc) {
+        return false;
+    }
+    store.fetch(now.pc) == Some(PAUSE)
 }
 
 /// Looks at a hart that is chosen, and returns whether it waits: it spins or pauses.

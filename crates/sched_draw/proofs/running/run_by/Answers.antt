@@ -33,11 +33,11 @@ returns-then-is_over g c =
     let within = c.stretches.invariant.within in
     let least = c.min.ensures in
     let first = world g.S.Store.memory c.args.machine.now in
-    let last = world g.S.Store.memory c.run_some.new.machine in
+    let last = world g.S.Store.memory c.run.new.machine in
     let to = c.stretches.from + c.min.result in
     ended (g.C.Chooser.choices c.args.chooser 0 c.args.steps first)
-    (g.C.Chooser.choices c.run_some.new.chooser to (c.args.steps - to) last) first last (harts_of c.run_some.new.chosen)
+    (g.C.Chooser.choices c.run.new.self to (c.args.steps - to) last) first last (harts_of c.run.new.chosen)
     c.span.result.start c.span.result.end (map hart_of c.ends.result.now) c.ends.ensures
     (c.span.ensures.among to (c.args.steps - to) last) (c.is_over.ensures c.if-is_over.true)
-    (c.in_ok-run_some.ensures.ran (g.C.Chooser.choices c.args.chooser 0 c.args.steps first) first c.args.steps
-    (omega (arith, within, least)) c.stretches.invariant.so_far)
+    (c.in_ok-run.ensures.ran c.args.steps (omega (arith, within, least))
+    (g.C.Chooser.choices c.args.chooser 0 c.args.steps first) first c.stretches.invariant.so_far)

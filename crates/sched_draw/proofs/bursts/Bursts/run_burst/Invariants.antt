@@ -1,0 +1,17 @@
+use Rattle.std.proofs.Common.{◌≡◌, ℕ, ◌+◌, ◌-◌, ◌≤◌, length}
+use Rattle.machine.specs.Machine.{world}
+use Rattle.sched_run.specs.Chosen.{harts_of}
+use Rattle.sched_draw.specs.Bursts.{burst_choices_drawn}
+use Rattle.sched_draw.specs.Partway.{LeadsOn}
+use Rattle.sched_draw.proofs.bursts.Bursts.run_burst.Given as goal
+
+abbrev pub invariant-steps : goal.invariant-steps
+invariant-steps g l = record {
+  harts : length (world g.S.Store.memory l.machine).harts ≡ length (world g.S.Store.memory l.fn.machine).harts;
+  is_for : l.self.harts ≡ length (world g.S.Store.memory l.machine).harts;
+  left : l.to ≤ l.counter + l.self.left;
+  refusals : l.self.refusals ≡ l.fn.self.refusals;
+  ran : (steps : ℕ) → l.to ≤ steps → LeadsOn
+      (burst_choices_drawn (steps - l.from) l.fn.self) (world g.S.Store.memory l.fn.machine) (harts_of l.fn.chosen)
+      (burst_choices_drawn (steps - l.counter) l.self) (world g.S.Store.memory l.machine) (harts_of l.chosen);
+}
