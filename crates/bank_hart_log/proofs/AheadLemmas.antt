@@ -1,11 +1,10 @@
 -- A local step of an image's code touches nothing, and leads where the image's table says; so the
 -- local steps of a log are as the table wants them.
-use Rattle.std.proofs.Common.{◌≡◌, ℕ, zero, suc, ◌+◌, ◌*◌, ◌%◌, ◌^◌, Bool, true, false, not, ◌&&◌, List, [], Option, Some, None, refl, ap, ap₂, sym, subst, ◌∙◌, rules}
+use Rattle.std.proofs.Common.{◌≡◌, ℕ, zero, suc, ◌%◌, ◌^◌, Bool, true, false, not, ◌&&◌, List, [], Option, Some, None, refl, ap, sym, subst, ◌∙◌, rules}
 use Rattle.std.specs.Prelude.{if◌then◌else◌}
 use Rattle.std.specs.Option.{is_some}
-use Rattle.std.proofs.lemmas.Bool.{and_parts}
 use Rattle.image.specs.Image.{ImageValue}
-use Rattle.mem_store.specs.Memory.{Memory, grants, granted, all_below, number_at, around, to_execute, to_write}
+use Rattle.mem_store.specs.Memory.{Memory, granted, number_at, around, to_execute}
 use Rattle.mem_store.specs.Image.{image_memory}
 use Rattle.mem_store.specs.Access.{fetched}
 use Rattle.isa_table.specs.Decoded.{decoded}
@@ -21,17 +20,19 @@ use Rattle.hart_step.specs.declared.hart.Cause.{Cause}
 use Rattle.hart_step.specs.declared.hart.Hart.{Hart}
 use Rattle.hart_step.specs.declared.hart.HartState.{HartState}
 use Rattle.hart_step.specs.declared.hart.HartState.TheVariants.{Running, Exited, Faulted}
-use Rattle.hart_local.specs.CodeMemory.{is_code, code_in}
+use Rattle.hart_local.specs.CodeMemory.{code_in}
 use Rattle.hart_local.specs.LocalStep.{local_of, local_word, local_at, local_in, is_local_next, class_of, step_alone, walk}
 use Rattle.hart_local.specs.declared.stepping.Class.TheVariants.{Local, Shared}
 use Rattle.hart_local.proofs.StepLemmas.{step_is_alone}
 use Rattle.bank_hart_log.proofs.CodeLemmas.{word_around, shut_around}
+use Rattle.bank_step.specs.declared.steps.CodeTouch.{CodeTouch}
+use Rattle.bank_step.specs.Known.{IsCodeTouch}
 use Rattle.bank_laws.specs.Segments.{LoggedSegment, HartSlot}
 use Rattle.bank_laws.specs.HartLogs.{AreLocal, local_hart}
 use Rattle.bank_laws.specs.Words.{with_four_if}
 use Rattle.bank_laws.specs.Carried.{unless_fault, carried_by, carried_at, carried_in, touch_of}
-use Rattle.bank_laws.specs.Table.{table, needed_code, planned, image_with_bytes, is_unwritable, told, word_in}
-use Rattle.bank_hart_log.specs.HartLog.{image_table, slot_in, StepsAreLocal, HartLogHolds, IsAhead}
+use Rattle.bank_laws.specs.Table.{needed_code, planned, image_with_bytes, is_unwritable, told, word_in}
+use Rattle.bank_hart_log.specs.HartLog.{image_table, slot_in, StepsAreLocal, HartLogHolds, IsAhead, IsAheadTouch}
 
 -- ---- a word of code that spells a local instruction
 record IsLocalWord (m : Memory) (pc word : ℕ) (i : Instr) : Type 0 where
@@ -197,3 +198,44 @@ holds_ahead image inputs h log hart named walked before reached count holds to =
 pub is_ahead : (image : ImageValue) (inputs : List ℕ) (h : ℕ) (log : List LoggedSegment) (count : ℕ) (reached : Hart) → WalkedTo image inputs h log count reached
     → IsAhead (record { image = image; inputs = inputs; hart = h; log = log }) (record { local = count; hart = reached })
 is_ahead image inputs h log count reached to = record { local = to.local; hart = to.reached_is }
+
+-- local steps are a walk
+local_is_walk : (image : ImageValue) (n : ℕ) (v u : HartValue) → StepsAreLocal image n v → u ≡ local_hart (image_table image) n v
+    → walk (code_in (image_memory image)) n v ≡ Some u
+unfolding walk
+local_is_walk image zero v u local is = ap Some (sym is)
+local_is_walk image (suc n) v u local is =
+    let code = code_in (image_memory image) in
+    let next = class_local code v local.0 in
+    let here = leads_alone (image_memory image) v next in
+    ap (λ (b : Bool). if b then walk code n (step_alone code v) else None) next
+    ∙ ap (walk code n) here.after
+    ∙ local_is_walk image n ((image_table image).after v [] [] false) u local.1 is
+
+-- how far a log has walked ahead
+pub walked_before : (image : ImageValue) (inputs : List ℕ) (h : ℕ) (log : List LoggedSegment) (hart : Hart) (named : Option ℕ) (walked : ℕ) (reached : Hart) (code : Memory)
+    → HartLogHolds image inputs h log hart named walked reached → code ≡ code_in (image_memory image) → walk code walked (hart_of hart) ≡ Some (hart_of reached)
+walked_before image inputs h log hart named walked reached code holds code_is =
+    subst (λ (c : Memory). walk c walked (hart_of hart) ≡ Some (hart_of reached)) (sym code_is)
+    (subst (λ (v : HartValue). walk (code_in (image_memory image)) walked v ≡ Some (hart_of reached)) (sym (ap (λ (s : HartSlot HartValue). s.hart) holds.slot))
+    (local_is_walk image walked (slot_in image inputs h log).hart (hart_of reached) holds.local holds.reached_is))
+
+pub ahead_there : (image : ImageValue) (inputs : List ℕ) (h : ℕ) (log : List LoggedSegment) (hart : Hart) (named : Option ℕ) (walked : ℕ) (reached : Hart)
+    → HartLogHolds image inputs h log hart named walked reached → hart_of reached ≡ local_hart (image_table image) walked (hart_of hart)
+ahead_there image inputs h log hart named walked reached holds =
+    holds.reached_is ∙ ap (local_hart (image_table image) walked) (sym (ap (λ (s : HartSlot HartValue). s.hart) holds.slot))
+
+-- and back
+pub holds_back : (image : ImageValue) (inputs : List ℕ) (h : ℕ) (log : List LoggedSegment) (hart : Hart) (named : Option ℕ) (walked : ℕ) (reached : Hart)
+    → HartLogHolds image inputs h log hart named walked reached → HartLogHolds image inputs h log hart named 0 hart
+holds_back image inputs h log hart named walked reached holds =
+    holds_ahead image inputs h log hart named walked reached hart 0 holds (record { local = tt; reached_is = ap (λ (s : HartSlot HartValue). s.hart) holds.slot })
+
+pub is_ahead_touch : (image : ImageValue) (inputs : List ℕ) (h : ℕ) (log : List LoggedSegment) (count : ℕ) (reached : Hart) (i : ImageValue) (t : CodeTouch)
+    → WalkedTo image inputs h log count reached → i ≡ image → IsCodeTouch (image_memory i) (hart_of reached) t
+    → IsAheadTouch (record { image = image; inputs = inputs; hart = h; log = log }) (record { local = count; touch = t })
+is_ahead_touch image inputs h log count reached i t to same touches = record {
+  local = to.local;
+  touches = subst (λ (v : HartValue). IsCodeTouch (image_memory image) v t) to.reached_is
+      (subst (λ (x : ImageValue). IsCodeTouch (image_memory x) (hart_of reached) t) same touches);
+}

@@ -1,7 +1,12 @@
 -- What every hart log keeps, and one more segment.
 use Rattle.std.proofs.Common.{◌≡◌, ℕ, Bool, ◌&&◌, List, [], ◌∷◌, ◌++◌, Option, Some, None, refl, ap, ap₂, sym, subst, ◌∙◌}
+use Rattle.std.specs.Prelude.{IfSome, Ok}
 use Rattle.std.specs.List.{AllByRecursion}
 use Rattle.image.specs.Image.{ImageValue}
+use Rattle.isa_table.specs.declared.instr.Instr.{Instr}
+use Rattle.mem_store.specs.Memory.{Memory}
+use Rattle.mem_store.specs.Image.{image_memory}
+use Rattle.mem_store.specs.Instruction.{instruction_at}
 use Rattle.hart_step.specs.Hart.{HartValue, hart_of}
 use Rattle.hart_step.specs.declared.hart.Hart.{Hart}
 use Rattle.hart_reservations.specs.Marks.{names}
@@ -12,7 +17,9 @@ use Rattle.bank_laws.specs.Segments.{LoggedSegment, HartSlot, logged_access, slo
 use Rattle.bank_laws.specs.HartLogs.{AreLocal, IsStepwise, StepFits, step_slot, local_hart, local_slot, segment_slot, slot_after_log}
 use Rattle.bank_laws.proofs.HartLogLemmas.{stepwise_walks}
 use Rattle.bank_laws.specs.Merged.{first_slot}
-use Rattle.bank_step.specs.Told.{told_word}
+use Rattle.bank_step.specs.declared.steps.CodeTouch.{CodeTouch}
+use Rattle.bank_step.specs.Known.{IsInstrBeside}
+use Rattle.bank_step.specs.Told.{as_touch, told_memory, told_word}
 use Rattle.bank_hart_log.specs.declared.step.Slot.{Slot}
 use Rattle.bank_hart_log.specs.HartLog.{HartLogValue, image_table, slot_in, logged_slot, with_access, StepsAreLocal, CountLocal, FitsLog, HartLogHolds, IsOfHart, TouchesNext}
 use Rattle.bank_hart_log.specs.LastStep.{slot_is, succeeds_at, IsTouch, SlotIf}
@@ -119,16 +126,16 @@ did_by_access T e s c t a v m is =
     ap₂ (λ (w : WordBytes) (n : Bool). slot_did T s c t w (succeeds t.act e.refuse (n && names s.named t.word))) (sym before) (sym mark)
 
 -- the fields of the code as the log's
-pub next_fits : (l : HartLogValue) (e : LoggedSegment) (t : Touch) (s r : Slot) (a : LoggedAccess) (v : WordBytes) (m : Bool) → TouchesNext l e t
-    → slot_is s ≡ local_slot (image_table l.image) e.local (logged_slot l)
+pub next_fits : (l : HartLogValue) (e : LoggedSegment) (k : CodeTouch) (t : Touch) (s r : Slot) (a : LoggedAccess) (v : WordBytes) (m : Bool) → TouchesNext l e k
+    → as_touch k.touch ≡ t → slot_is s ≡ local_slot (image_table l.image) e.local (logged_slot l)
     → a ≡ logged_access (image_table l.image) e (slot_is s).hart [] t v m (succeeds t.act e.refuse (m && names s.named t.word))
     → slot_is r ≡ slot_did (image_table l.image) (slot_is s) [] t v (succeeds t.act e.refuse (m && names s.named t.word))
     → FitsLog l (with_access e a) × (slot_is r ≡ segment_slot (image_table l.image) (with_access e a) (logged_slot l))
-next_fits l e t s r a v m next is a_is r_is =
+next_fits l e k t s r a v m next same is a_is r_is =
     let T = image_table l.image in
     let f = with_access e a in
-    let need : T.need (slot_is s).hart ≡ None = ap (λ (u : HartSlot HartValue). T.need u.hart) is ∙ next.need in
-    let plan : T.plan (slot_is s).hart [] ≡ Some t = ap (λ (u : HartSlot HartValue). T.plan u.hart []) is ∙ next.plan in
+    let need : T.need (slot_is s).hart ≡ None = ap (λ (u : HartSlot HartValue). T.need u.hart) is ∙ next.touches.need in
+    let plan : T.plan (slot_is s).hart [] ≡ Some t = ap (λ (u : HartSlot HartValue). T.plan u.hart []) is ∙ next.touches.plan ∙ ap Some same in
     fits_by l f s (Some r) next.hart next.local is
     (fits_in_code T f (slot_is s) (a ∷ []) (Some r) need refl
     (fits_touch T f (slot_is s) [] t a (Some r) plan
@@ -141,20 +148,54 @@ pub record NextSeen (image : ImageValue) (inputs : List ℕ) (h : ℕ) (log : Li
   pub slot_after_is : (c : WordBytes) → None ≡ told_word ((image_table image).need (slot_is s).hart) c → (image_table image).plan (slot_is s).hart c ≡ Some t
       → slot_is r ≡ slot_did (image_table image) (slot_is s) c t v (succeeds t.act e.refuse (m && names s.named t.word))
 
-pub seen_fits : (image : ImageValue) (inputs : List ℕ) (h : ℕ) (log : List LoggedSegment) (hart : Hart) (named : Option ℕ) (walked : ℕ) (reached : Hart) (l : HartLogValue) (e : LoggedSegment) (t : Touch) (s r : Slot) (a : LoggedAccess) (v : WordBytes) (m : Bool) (count : ℕ)
-    → HartLogHolds image inputs h log hart named walked reached → record { image = image; inputs = inputs; hart = h; log = log } ≡ l → TouchesNext l e t → count ≡ e.local
-    → hart_of s.hart ≡ local_hart (image_table l.image) count (logged_slot l).hart → s.named ≡ named → NextSeen image inputs h log e t s r a v m
+pub seen_fits : (image : ImageValue) (inputs : List ℕ) (h : ℕ) (log : List LoggedSegment) (hart : Hart) (named : Option ℕ) (walked : ℕ) (reached : Hart) (l : HartLogValue) (e : LoggedSegment) (k : CodeTouch) (s r : Slot) (a : LoggedAccess) (v : WordBytes) (m : Bool) (count : ℕ)
+    → HartLogHolds image inputs h log hart named walked reached → record { image = image; inputs = inputs; hart = h; log = log } ≡ l → TouchesNext l e k → count ≡ e.local
+    → hart_of s.hart ≡ local_hart (image_table l.image) count (logged_slot l).hart → s.named ≡ named → NextSeen image inputs h log e (as_touch k.touch) s r a v m
     → FitsLog (record { image = image; inputs = inputs; hart = h; log = log }) (with_access e a)
     × (slot_is r ≡ segment_slot (image_table image) (with_access e a) (slot_in image inputs h log))
-seen_fits image inputs h log hart named walked reached l e t s r a v m count holds view next counted to named_is seen =
+seen_fits image inputs h log hart named walked reached l e k s r a v m count holds view next counted to named_is seen =
     let L : HartLogValue = record { image = image; inputs = inputs; hart = h; log = log } in
     let T = image_table image in
-    let here : TouchesNext L e t = subst (λ (x : HartLogValue). TouchesNext x e t) (sym view) next in
+    let here : TouchesNext L e k = subst (λ (x : HartLogValue). TouchesNext x e k) (sym view) next in
+    let t = as_touch k.touch in
     let hart_there : hart_of s.hart ≡ local_hart T e.local (logged_slot L).hart =
     to ∙ ap (λ (n : ℕ). local_hart (image_table l.image) n (logged_slot l).hart) counted ∙ sym (ap (λ (x : HartLogValue). local_hart (image_table x.image) e.local (logged_slot x).hart) view) in
     let named_there : s.named ≡ (logged_slot L).named = named_is ∙ ap (λ (x : HartSlot HartValue). x.named) holds.slot in
     let at : slot_is s ≡ local_slot T e.local (logged_slot L) = λ i. record { hart = hart_there i; named = named_there i } in
-    let need : T.need (slot_is s).hart ≡ None = ap (λ (u : HartValue). T.need u) hart_there ∙ here.need in
-    let plan : T.plan (slot_is s).hart [] ≡ Some t = ap (λ (u : HartValue). T.plan u []) hart_there ∙ here.plan in
+    let need : T.need (slot_is s).hart ≡ None = ap (λ (u : HartValue). T.need u) hart_there ∙ here.touches.need in
+    let plan : T.plan (slot_is s).hart [] ≡ Some t = ap (λ (u : HartValue). T.plan u []) hart_there ∙ here.touches.plan in
     let told : None ≡ told_word (T.need (slot_is s).hart) [] = sym (ap (λ (o : Option ℕ). told_word o []) need) in
-    next_fits L e t s r a v m here at (seen.access_is [] told plan) (seen.slot_after_is [] told plan)
+    next_fits L e k t s r a v m here refl at (seen.access_is [] told plan) (seen.slot_after_is [] told plan)
+
+-- the instruction that comes with a touch is the one that the code does next
+pub instr_there : (image : ImageValue) (inputs : List ℕ) (h : ℕ) (log : List LoggedSegment) (l : HartLogValue) (e : LoggedSegment) (k : CodeTouch) (hart : Hart) (bytes : WordBytes) (count : ℕ)
+    → record { image = image; inputs = inputs; hart = h; log = log } ≡ l → TouchesNext l e k → count ≡ e.local
+    → hart_of hart ≡ local_hart (image_table l.image) count (logged_slot l).hart
+    → IfSome k.instr (λ i. Ok i ≡ instruction_at (told_memory (image_memory image) None (Some (record { address = k.touch.word; bytes = bytes })) None) hart.pc)
+instr_there image inputs h log l e k hart bytes count view next counted to =
+    let T = image_table l.image in
+    let pc : (local_hart T e.local (logged_slot l).hart).pc ≡ hart.pc = sym (ap (λ (v : HartValue). v.pc) (to ∙ ap (λ (n : ℕ). local_hart T n (logged_slot l).hart) counted)) in
+    let here : image_memory l.image ≡ image_memory image = sym (ap (λ (x : HartLogValue). image_memory x.image) view) in
+    go k.instr (subst (λ (a : ℕ). IfSome k.instr (IsInstrBeside (image_memory image) a k.touch.word)) pc
+    (subst (λ (m : Memory). IfSome k.instr (IsInstrBeside m (local_hart T e.local (logged_slot l).hart).pc k.touch.word)) here next.touches.instr))
+  where
+    go : (o : Option Instr) → IfSome o (IsInstrBeside (image_memory image) hart.pc k.touch.word)
+        → IfSome o (λ i. Ok i ≡ instruction_at (told_memory (image_memory image) None (Some (record { address = k.touch.word; bytes = bytes })) None) hart.pc)
+    go None all = tt
+    go (Some i) all = all bytes
+
+-- a log's hart, from where the log ends
+pub local_there : (image : ImageValue) (inputs : List ℕ) (h : ℕ) (log : List LoggedSegment) (hart : Hart) (named : Option ℕ) (walked : ℕ) (reached : Hart) (l : HartLogValue) (e : LoggedSegment) (k : CodeTouch) (count : ℕ)
+    → HartLogHolds image inputs h log hart named walked reached → record { image = image; inputs = inputs; hart = h; log = log } ≡ l → TouchesNext l e k → count ≡ e.local
+    → StepsAreLocal image count (hart_of hart)
+local_there image inputs h log hart named walked reached l e k count holds view next counted =
+    let here : TouchesNext (record { image = image; inputs = inputs; hart = h; log = log }) e k = subst (λ (x : HartLogValue). TouchesNext x e k) (sym view) next in
+    subst (λ (v : HartValue). StepsAreLocal image count v) (sym (ap (λ (s : HartSlot HartValue). s.hart) holds.slot))
+    (subst (λ (n : ℕ). StepsAreLocal image n (slot_in image inputs h log).hart) (sym counted) here.local)
+
+pub from_log : (image : ImageValue) (inputs : List ℕ) (h : ℕ) (log : List LoggedSegment) (hart : Hart) (named : Option ℕ) (walked : ℕ) (reached : Hart) (l : HartLogValue) (count : ℕ) (v : HartValue)
+    → HartLogHolds image inputs h log hart named walked reached → record { image = image; inputs = inputs; hart = h; log = log } ≡ l
+    → v ≡ local_hart (image_table image) count (hart_of hart) → v ≡ local_hart (image_table l.image) count (logged_slot l).hart
+from_log image inputs h log hart named walked reached l count v holds view is =
+    is ∙ ap (local_hart (image_table image) count) (ap (λ (s : HartSlot HartValue). s.hart) holds.slot)
+    ∙ ap (λ (x : HartLogValue). local_hart (image_table x.image) count (logged_slot x).hart) view

@@ -10,12 +10,15 @@ use Rattle.hart_local.specs.CodeMemory.{code_in}
 use Rattle.hart_local.specs.LocalStep.{class_of}
 use Rattle.hart_local.specs.declared.stepping.Class.TheVariants.{Local}
 use Rattle.bank_laws.specs.declared.access.LoggedAccess.{LoggedAccess}
-use Rattle.bank_laws.specs.Runs.{StepTable, Touch}
+use Rattle.bank_laws.specs.Runs.{StepTable}
 use Rattle.bank_laws.specs.Segments.{LoggedSegment, HartSlot, Walks}
 use Rattle.bank_laws.specs.HartLogs.{IsStepwise, StepFits, local_hart, local_slot, segment_slot, slot_after_log}
 use Rattle.bank_laws.specs.Table.{table}
 use Rattle.bank_laws.specs.Merged.{first_slot}
+use Rattle.bank_step.specs.declared.steps.CodeTouch.{CodeTouch}
+use Rattle.bank_step.specs.Known.{IsCodeTouch}
 use Rattle.bank_hart_log.specs.declared.log.Ahead.{Ahead}
+use Rattle.bank_hart_log.specs.declared.log.AheadTouch.{AheadTouch}
 use Rattle.bank_hart_log.specs.declared.log.AddFault.{AddFault}
 use Rattle.bank_hart_log.specs.declared.log.AddFault.TheVariants.{Mismatch, Memory}
 
@@ -89,6 +92,11 @@ pub record IsAhead (l : HartLogValue) (a : Ahead) : Type 0 where
   pub local : StepsAreLocal l.image a.local (logged_slot l).hart
   pub hart : hart_of a.hart ≡ local_hart (image_table l.image) a.local (logged_slot l).hart
 
+-- a hart is n local steps ahead of the log, and its next step is of code and touches a word
+pub record IsAheadTouch (l : HartLogValue) (a : AheadTouch) : Type 0 where
+  pub local : StepsAreLocal l.image a.local (logged_slot l).hart
+  pub touches : IsCodeTouch (image_memory l.image) (local_hart (image_table l.image) a.local (logged_slot l).hart) a.touch
+
 -- a segment may come next: the hart's own, with local steps, and its last step's accesses
 pub record FitsLog (l : HartLogValue) (e : LoggedSegment) : Type 0 where
   pub hart : e.hart ≡ l.hart
@@ -100,11 +108,10 @@ abbrev pub with_access : LoggedSegment → LoggedAccess → LoggedSegment
 with_access e a = record e { accesses = a ∷ [] }
 
 -- a segment that touches a word may come next: its own, with local steps, its last of code
-pub record TouchesNext (l : HartLogValue) (e : LoggedSegment) (t : Touch) : Type 0 where
+pub record TouchesNext (l : HartLogValue) (e : LoggedSegment) (t : CodeTouch) : Type 0 where
   pub hart : e.hart ≡ l.hart
   pub local : StepsAreLocal l.image e.local (logged_slot l).hart
-  pub need : (image_table l.image).need (local_hart (image_table l.image) e.local (logged_slot l).hart) ≡ None
-  pub plan : (image_table l.image).plan (local_hart (image_table l.image) e.local (logged_slot l).hart) [] ≡ Some t
+  pub touches : IsCodeTouch (image_memory l.image) (local_hart (image_table l.image) e.local (logged_slot l).hart) t
 
 -- the log with one more segment
 abbrev pub with_segment : HartLogValue → LoggedSegment → HartLogValue

@@ -2,7 +2,7 @@
 #![tactic(auto)]
 
 pub use first::first_hart;
-pub use log::{AddFault, Ahead, HartLog, each_hart_log_is_walked};
+pub use log::{AddFault, Ahead, AheadTouch, HartLog, each_hart_log_is_walked};
 pub use step::{Found, Slot, code_access, data_access};
 
 mod first;

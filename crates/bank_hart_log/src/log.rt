@@ -1,22 +1,21 @@
 //! A hart's log.
-ghost use Rattle.std.specs.Prelude.{◌≡◌, ◌<◌, ◌≤◌, length, [], MatchOption, IfOk, IfErr, OnErr, OnOk};
+ghost use Rattle.std.specs.Prelude.{◌≡◌, ◌<◌, ◌≤◌, Some, length, [], MatchOption, IfOk, IfErr, IfSome, OnErr, OnOk};
 ghost use Rattle.hart_reservations.specs.Limit.{most_harts};
 ghost use Rattle.hart_step.specs.Hart.{hart_of};
 ghost use Rattle.mem_store.specs.Image.{image_memory, segments_memory};
 ghost use Rattle.hart_local.specs.CodeMemory.{code_in};
-ghost use Rattle.hart_local.specs.LocalStep.{class_of};
+ghost use Rattle.hart_local.specs.LocalStep.{class_of, walk};
 ghost use Rattle.hart_local.specs.declared.stepping.Class.TheVariants.{Shared};
 ghost use Rattle.bank_laws.specs.HartLogs.{local_hart, segment_slot};
-ghost use Rattle.bank_hart_log.specs.HartLog.{image_table, last_segment_stamp, logged_slot, with_segment, with_access, FitsLog, IsAhead, IsOfHart, RefusesSegment, StepsAreLocal, TouchesNext};
+ghost use Rattle.bank_hart_log.specs.HartLog.{image_table, last_segment_stamp, logged_slot, with_segment, with_access, FitsLog, IsAhead, IsAheadTouch, IsOfHart, RefusesSegment, StepsAreLocal, TouchesNext};
 ghost use Rattle.bank_hart_log.specs.declared.log.AddFault.{AddFault};
-ghost use Rattle.bank_step.specs.Told.{as_touch};
 ghost use Rattle.bank_hart_log.specs.LastStep.{SlotIf};
 
 use crate::first::first_hart;
 use crate::step::{Found, Slot, TouchedWord, last_step, touch_word, walked};
 use bank_laws::LoggedAccess;
 use bank_order::LogSegment;
-use bank_step::PlannedTouch;
+use bank_step::{CodeTouch, InstrTable};
 use hart_local::{Code, local_steps};
 use hart_step::Hart;
 use image::Image;
@@ -40,6 +39,15 @@ pub struct Ahead {
     pub local: u32,
     /// The hart after them.
     pub hart: Hart,
+}
+
+/// Some local steps ahead of a hart's log, and the word that the step after them touches.
+#[derive(Clone, Copy)]
+pub struct AheadTouch {
+    /// Number of local steps.
+    pub local: u32,
+    /// The touch of the next step.
+    pub touch: CodeTouch,
 }
 
 /// The log of one hart of a program, segment by segment, and the hart's state after it. It says
@@ -70,6 +78,47 @@ impl<'a, A: Allocator> Model for HartLog<'a, A> {
     } };
 
     ghost invariant = { λ l. HartLogHolds l.image.now l.inputs.now l.number l.segments.items l.hart l.named l.walked l.reached };
+}
+
+// Goes on with local steps, where `ahead` of them have led from a hart to `reached`, until the next
+// one isn't local or there are `limit` of them; returns their number. Only if more were done, it
+// begins anew.
+#[inline]
+#[tactic(auto, using(hart_local::proofs::StepLemmas::walks_join))]
+fn walk_on<A: Allocator>(
+    hart: &Hart,
+    ahead: u32,
+    reached: &mut Hart,
+    code: &Code<A>,
+    limit: u32,
+) -> u32
+    ensures goes { walk (segments_memory code.now) ahead (hart_of hart.now) ≡ Some (hart_of reached.old)
+        → walk (segments_memory code.now) result (hart_of hart.now) ≡ Some (hart_of reached.new) }
+    ensures limit { result ≤ limit }
+    ensures stops { result < limit
+        → class_of (segments_memory code.now) (hart_of reached.new) ≡ Shared }
+{
+    if limit < ahead {
+        *reached = *hart;
+        return local_steps(reached, code, limit);
+    }
+    ahead + local_steps(reached, code, limit - ahead)
+}
+
+// Brings `reached`, which is `ahead` local steps ahead of a hart, to where `count` of them lead.
+#[inline]
+fn reach<A: Allocator>(image: &Image<A>, hart: &Hart, ahead: u32, reached: &mut Hart, count: u32)
+    requires local { StepsAreLocal image.now count (hart_of hart.now) }
+    requires reached { hart_of reached.old ≡ local_hart (image_table image.now) ahead (hart_of hart.now) }
+    ensures { hart_of reached.new ≡ local_hart (image_table image.now) count (hart_of hart.now) }
+{
+    if count == ahead {
+        return;
+    }
+    let Some(there) = walked(image, hart, count) else {
+        unreachable!();
+    };
+    *reached = there;
 }
 
 impl<'a, A: Allocator> HartLog<'a, A> {
@@ -121,14 +170,35 @@ impl<'a, A: Allocator> HartLog<'a, A> {
         ensures stops { result.local < limit
             → class_of (segments_memory code.now) (hart_of result.hart) ≡ Shared }
     {
-        let mut reached = self.hart;
-        let local = local_steps(&mut reached, code, limit);
+        let local = walk_on(&self.hart, self.walked, &mut self.reached, code, limit);
         self.walked = local;
-        self.reached = reached;
         Ahead {
             local,
-            hart: reached,
+            hart: self.reached,
         }
+    }
+
+    /// Does local steps ahead of the log as `walk_ahead` does. Returns their number, with the word
+    /// that the next step touches, if the table has its instruction and it touches a word. On
+    /// `None` the caller looks at what `walk_ahead` gives; no step is done again for that.
+    pub fn walk_to_touch(
+        &mut self,
+        code: &Code<A>,
+        instrs: &InstrTable<A>,
+        limit: u32,
+    ) -> Option<AheadTouch>
+        requires code { segments_memory code.now ≡ code_in (image_memory self.old.image) }
+        requires instrs { instrs.now ≡ self.old.image }
+        ensures same { self.new ≡ self.old }
+        ensures next { IfSome result (λ a. IsAheadTouch self.old a) }
+        ensures limit { IfSome result (λ a. a.local ≤ limit) }
+    {
+        let local = walk_on(&self.hart, self.walked, &mut self.reached, code, limit);
+        self.walked = local;
+        let Some(touch) = instrs.touch_of(&self.reached) else {
+            return None;
+        };
+        Some(AheadTouch { local, touch })
     }
 
     // The slot after a segment, if it may come next.
@@ -176,35 +246,42 @@ impl<'a, A: Allocator> HartLog<'a, A> {
     pub fn add_touch(
         &mut self,
         segment: LogSegment,
-        touch: PlannedTouch,
+        touch: CodeTouch,
         found: Found,
     ) -> Result<LoggedAccess, AddFault>
-        requires { TouchesNext self.old segment (as_touch touch) }
+        requires { TouchesNext self.old segment touch }
         ensures ok { IfOk result (λ access. FitsLog self.old (with_access segment access)
             × (self.new ≡ with_segment self.old (with_access segment access))) }
-        ensures touches { IfOk result (λ access. (access.hart ≡ segment.hart) × (access.word ≡ touch.word)) }
+        ensures touches { IfOk result (λ access. (access.hart ≡ segment.hart) × (access.word ≡ touch.touch.word)) }
         ensures finds { IfOk result (λ access. (access.before ≡ found.bytes) × (access.mark ≡ found.mark)) }
         ensures fault { IfErr result (λ fault. fault ≡ AddFault.Memory) }
         ensures err { OnErr result (self.new ≡ self.old) }
     {
-        let Some(hart) = self.after_local(segment.local) else {
-            unreachable!();
-        };
-        let slot = Slot {
-            hart,
-            named: self.named,
-        };
-        let TouchedWord {
-            access,
-            slot: after,
-        } = touch_word(self.image, &slot, &segment, None, touch, found);
+        reach(
+            self.image,
+            &self.hart,
+            self.walked,
+            &mut self.reached,
+            segment.local,
+        );
+        let TouchedWord { access, named } = touch_word(
+            self.image,
+            &mut self.reached,
+            self.named,
+            &segment,
+            None,
+            touch.touch,
+            touch.instr,
+            found,
+        );
         let Ok(_) = self.segments.push(with_access(segment, access)) else {
+            self.walked = 0;
+            self.reached = self.hart;
             return Err(AddFault::Memory);
         };
-        self.hart = after.hart;
-        self.named = after.named;
+        self.hart = self.reached;
+        self.named = named;
         self.walked = 0;
-        self.reached = after.hart;
         Ok(access)
     }
 

@@ -1,5 +1,7 @@
 //! The last step of a segment.
-ghost use Rattle.std.specs.Prelude.{◌≡◌, ◌↔◌, ◌&&◌, ◌∷◌, true, false, [], MatchOption, option_to_list};
+ghost use Rattle.std.specs.Prelude.{◌≡◌, ◌↔◌, ◌&&◌, ◌∷◌, true, false, [], Some, None, Ok, IfSome, MatchOption, option_to_list};
+ghost use Rattle.mem_store.specs.Image.{image_memory};
+ghost use Rattle.mem_store.specs.Instruction.{instruction_at};
 ghost use Rattle.hart_reservations.specs.Marks.{names};
 ghost use Rattle.hart_step.specs.Hart.{hart_of};
 ghost use Rattle.bank_laws.specs.Banks.{WordBytes, is_store, named_by_kind};
@@ -8,16 +10,20 @@ ghost use Rattle.bank_laws.specs.Segments.{logged_access, code_reads, slot_did};
 ghost use Rattle.bank_laws.specs.HartLogs.{StepFits, step_slot, local_hart};
 ghost use Rattle.bank_laws.specs.Carried.{act_of};
 ghost use Rattle.bank_laws.specs.Table.{word_in};
-ghost use Rattle.bank_step.specs.Told.{as_touch, told_word};
-ghost use Rattle.bank_hart_log.specs.HartLog.{image_table, StepsAreLocal};
+ghost use Rattle.bank_step.specs.Told.{as_touch, told_memory, told_word};
+ghost use Rattle.bank_hart_log.specs.HartLog.{image_table, slot_with, StepsAreLocal};
 ghost use Rattle.bank_hart_log.specs.LastStep.{access_list, slot_is, succeeds_at, data_slot, IsCodeRead, IsTouch, DataFits, SlotIf};
 
 use crate::local::is_local_next;
 use bank_laws::{LoggedAccess, LoggedKind};
 use bank_order::LogSegment;
-use bank_step::{PlannedTouch, ToldWords, Word, needed_word, planned_touch, settle, settle_store};
+use bank_step::{
+    PlannedTouch, ToldWords, Word, needed_word, planned_touch, settle, settle_known,
+    settle_known_store,
+};
 use hart_step::{AccessKind, Hart};
 use image::Image;
+use isa_table::Instr;
 use std::alloc::Allocator;
 
 /// A hart with the word that its last LR without a fault named, if no store-conditional without a
@@ -134,16 +140,19 @@ fn is_code_read(segment: &LogSegment, word: u32, access: &LoggedAccess) -> bool
     is_same(access, &expected)
 }
 
-// Does a hart's step that touches a word; returns the word's bytes after an access of this kind. A
-// store-conditional succeeds if `succeeds` is set.
+// Does a hart's step that touches a word, given its instruction too, if that is known; returns the
+// word's bytes after an access of this kind. A store-conditional succeeds if `succeeds` is set.
 fn settle_word<A: Allocator>(
     hart: &mut Hart,
     image: &Image<A>,
     code: Option<Word>,
     touched: Word,
+    instr: Option<Instr>,
     kind: LoggedKind,
     succeeds: bool,
 ) -> [u8; 4]
+    requires { IfSome instr (λ i. Ok i ≡ instruction_at
+        (told_memory (image_memory image.now) code (Some touched) None) hart.old.pc) }
     ensures after { (c : WordBytes) → let t = image_table image.now in let h = hart_of hart.old in
         code ≡ told_word (t.need h) c → Some touched ≡ told_word (word_in (t.plan h c)) touched.bytes
         → hart_of hart.new ≡ t.after h c touched.bytes succeeds }
@@ -152,62 +161,67 @@ fn settle_word<A: Allocator>(
         → result ≡ word_after t h c touched.bytes kind }
 {
     if is_store(kind) {
-        return settle_store(hart, image, code, touched, succeeds);
+        return settle_known_store(hart, image, code, touched, instr, succeeds);
     }
     let words = ToldWords {
         code,
         touched: Some(touched),
     };
-    settle(hart, image, words, succeeds);
+    settle_known(hart, image, words, instr, succeeds);
     touched.bytes
 }
 
-// Whether a touch is a store-conditional that stores, given the mark that it finds.
-fn stores(slot: &Slot, segment: &LogSegment, touch: PlannedTouch, mark: bool) -> bool
-    ensures { result ≡ succeeds (as_touch touch).act segment.now.refuse (mark && names slot.now.named touch.word) }
+// Whether a touch is a store-conditional that stores, given the word that the hart's last LR named,
+// and the mark that it finds.
+fn stores(named: Option<u32>, segment: &LogSegment, touch: PlannedTouch, mark: bool) -> bool
+    ensures { result ≡ succeeds (as_touch touch).act segment.now.refuse (mark && names named touch.word) }
 {
-    let holds = mark && names(slot.named, touch.word);
+    let holds = mark && names(named, touch.word);
     succeeds(touch.kind, segment.refuse, holds)
 }
 
-/// What the last step of a segment logs of the word that it touches, and the slot after it.
+/// What the last step of a segment logs of the word that it touches, and what it leaves named.
 #[derive(Clone, Copy)]
 pub(crate) struct TouchedWord {
     /// The access to the word.
     pub access: LoggedAccess,
-    /// The slot after the step.
-    pub slot: Slot,
+    /// The word that the hart's last LR named, after the step.
+    pub named: Option<u32>,
 }
 
-/// Does the last step of a segment, which touches a word, given the word's bytes and mark. `code`
-/// is the word of the instruction, if that must be read.
+/// Does a hart's step, the last of a segment, which touches a word, given the word's bytes and mark.
+/// `code` is the word of the instruction, if that must be read; `instr` is the instruction, if it is
+/// known.
 pub(crate) fn touch_word<A: Allocator>(
     image: &Image<A>,
-    slot: &Slot,
+    hart: &mut Hart,
+    named: Option<u32>,
     segment: &LogSegment,
     code: Option<Word>,
     touch: PlannedTouch,
+    instr: Option<Instr>,
     found: Found,
 ) -> TouchedWord
-    ensures access { (c : WordBytes) → let t = image_table image.now in let s = slot_is slot.now in let e = segment.now in
+    requires { IfSome instr (λ i. Ok i ≡ instruction_at (told_memory (image_memory image.now) code
+        (Some (record { address = touch.word; bytes = found.bytes })) None) hart.old.pc) }
+    ensures access { (c : WordBytes) → let t = image_table image.now in let s = slot_with hart.old named in let e = segment.now in
         code ≡ told_word (t.need s.hart) c → t.plan s.hart c ≡ Some (as_touch touch)
         → result.access ≡ logged_access t e s.hart c (as_touch touch) found.bytes found.mark
         (succeeds (as_touch touch).act e.refuse (found.mark && names s.named touch.word)) }
     ensures touches { (result.access.hart ≡ segment.now.hart) × (result.access.word ≡ touch.word) }
-    ensures slot { (c : WordBytes) → let t = image_table image.now in let s = slot_is slot.now in let e = segment.now in
+    ensures slot { (c : WordBytes) → let t = image_table image.now in let s = slot_with hart.old named in let e = segment.now in
         code ≡ told_word (t.need s.hart) c → t.plan s.hart c ≡ Some (as_touch touch)
-        → slot_is result.slot ≡ slot_did t s c (as_touch touch) found.bytes
+        → slot_with hart.new result.named ≡ slot_did t s c (as_touch touch) found.bytes
         (succeeds (as_touch touch).act e.refuse (found.mark && names s.named touch.word)) }
 {
-    let succeeds = stores(slot, segment, touch, found.mark);
+    let succeeds = stores(named, segment, touch, found.mark);
     let kind = logged_kind(touch.kind, succeeds);
     let before = found.bytes;
     let word = Word {
         address: touch.word,
         bytes: before,
     };
-    let mut hart = slot.hart;
-    let after = settle_word(&mut hart, image, code, word, kind, succeeds);
+    let after = settle_word(hart, image, code, word, instr, kind, succeeds);
     TouchedWord {
         access: LoggedAccess {
             stamp: segment.stamp,
@@ -218,10 +232,7 @@ pub(crate) fn touch_word<A: Allocator>(
             after,
             mark: found.mark,
         },
-        slot: Slot {
-            hart,
-            named: named_after(kind, touch.word, slot.named),
-        },
+        named: named_after(kind, touch.word, named),
     }
 }
 
@@ -240,7 +251,9 @@ pub fn data_access<A: Allocator>(
         → result ≡ logged_access t e s.hart c (as_touch touch) found.bytes found.mark
         (succeeds (as_touch touch).act e.refuse (found.mark && names s.named touch.word)) }
 {
-    touch_word(image, slot, segment, code, touch, found).access
+    let mut hart = slot.hart;
+    let named = slot.named;
+    touch_word(image, &mut hart, named, segment, code, touch, None, found).access
 }
 
 // The slot after a step that touches a word, if an access is that of the touch.
@@ -261,11 +274,17 @@ fn touched<A: Allocator>(
         bytes: access.before,
         mark: access.mark,
     };
-    let expected = touch_word(image, slot, segment, code, touch, found);
+    let mut hart = slot.hart;
+    let expected = touch_word(
+        image, &mut hart, slot.named, segment, code, touch, None, found,
+    );
     if !is_same(access, &expected.access) {
         return None;
     }
-    Some(expected.slot)
+    Some(Slot {
+        hart,
+        named: expected.named,
+    })
 }
 
 // The slot after a step that touches no data.

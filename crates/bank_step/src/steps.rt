@@ -1,7 +1,8 @@
 //! What a hart's next step needs, touches and does.
-ghost use Rattle.std.specs.Prelude.{◌≡◌, ◌<◌, ◌%◌, Bool, Some, None, true, false, IfSome, option_map, if◌then◌else◌};
+ghost use Rattle.std.specs.Prelude.{◌≡◌, ◌<◌, ◌%◌, Bool, Some, None, Ok, true, false, IfSome, option_map, if◌then◌else◌};
 ghost use Rattle.mem_store.specs.Memory.{granted, to_load, to_write};
 ghost use Rattle.mem_store.specs.Image.{image_memory};
+ghost use Rattle.mem_store.specs.Instruction.{instruction_at};
 ghost use Rattle.hart_reservations.specs.Marks.{with_mark};
 ghost use Rattle.hart_reservations.specs.Reserve.{marks};
 ghost use Rattle.hart_step.specs.Hart.{hart_of};
@@ -12,7 +13,7 @@ ghost use Rattle.bank_laws.specs.Table.{table, told, word_in};
 ghost use Rattle.bank_step.specs.Told.{touched_if, as_touch, is_granted, told_memory, told_word, touch_by, tries_by, wanted, word_by, LeavesSite};
 
 use crate::image_bytes::{granted, is_executable, is_unwritable};
-use crate::words::{ToldMemory, Word};
+use crate::words::{KnownInstr, ToldMemory, Word};
 use hart_reservations::Reserve;
 use hart_step::{Access, AccessKind, Hart, HartState, access_by, step_hart};
 use image::{Image, Rights};
@@ -27,6 +28,15 @@ pub struct PlannedTouch {
     pub kind: AccessKind,
     /// The address of its first byte, a multiple of 4.
     pub word: u32,
+}
+
+/// The word that a step of code touches.
+#[derive(Clone, Copy)]
+pub struct CodeTouch {
+    /// The word, and what is done with it.
+    pub touch: PlannedTouch,
+    /// The instruction, if it is known.
+    pub instr: Option<Instr>,
 }
 
 /// The words that a step is given.
@@ -78,8 +88,8 @@ fn is_granted<A: Allocator>(image: &Image<A>, access: &Access) -> bool
         )
 }
 
-// The word that an access touches, unless it faults.
-fn touch_by<A: Allocator>(image: &Image<A>, access: Option<Access>) -> Option<PlannedTouch>
+/// The word that an access touches, unless it faults.
+pub fn touch_by<A: Allocator>(image: &Image<A>, access: Option<Access>) -> Option<PlannedTouch>
     requires { IfSome access (λ c. 0 < c.size) }
     ensures touch { option_map as_touch result ≡ touch_by (image_memory image.now) access }
     ensures aligned { IfSome result (λ t. t.word % 4 ≡ 0) }
@@ -185,31 +195,34 @@ fn memory_of<A: Allocator>(image: &Image<A>, words: ToldWords) -> ToldMemory<A>
     }
 }
 
-// A hart's step over an image's memory with at most two given words; returns the access of its
-// instruction. Only bytes of the memory may have changed. `succeeds` matters only to a
+// A hart's step over an image's memory with at most two given words, given its instruction and the
+// access of that. Only bytes of the memory may have changed. `succeeds` matters only to a
 // store-conditional.
 fn told_step<A: Allocator>(
     hart: &mut Hart,
     memory: &mut ToldMemory<A>,
+    known: KnownInstr,
+    access: Option<Access>,
     succeeds: bool,
-) -> Option<Access>
-    requires { memory.old.target ≡ None }
+)
+    requires target { memory.old.target ≡ None }
+    requires here { known.address ≡ hart.old.pc }
+    requires found { known.found ≡ instruction_at
+        (told_memory (image_memory memory.old.image.now) memory.old.code memory.old.touched memory.old.target) hart.old.pc }
+    requires access { access ≡ touched_if known.found (hart_of hart.old) }
     ensures { (c v : WordBytes) (ok : Bool) → let m = image_memory memory.old.image.now in let h = hart_of hart.old in
         memory.old.code ≡ told_word ((table m).need h) c → memory.old.touched ≡ told_word (word_in ((table m).plan h c)) v
-        → (tries_by result ≡ true → succeeds ≡ ok)
+        → (tries_by access ≡ true → succeeds ≡ ok)
         → LeavesSite (hart_of hart.new)
         (told_memory (image_memory memory.new.image.now) memory.new.code memory.new.touched memory.new.target).bytes
         (stepped 0 false (told m h c v ok)) }
 {
-    let known = memory.look_up(hart.pc);
-    let access = access_if(hart, known.found);
     let target = word_by(memory, access);
     memory.begin(target, known);
     let mut reserve = reserve_of(memory.touched, succeeds);
     let Ok(()) = step_hart(hart, 0, memory, &mut reserve, false) else {
         unreachable!();
     };
-    access
 }
 
 /// Does a hart's next step, given the word that it needs and the word that its instruction touches.
@@ -219,8 +232,27 @@ pub fn settle<A: Allocator>(hart: &mut Hart, image: &Image<A>, words: ToldWords,
         words.code ≡ told_word (t.need h) c → words.touched ≡ told_word (word_in (t.plan h c)) v
         → hart_of hart.new ≡ t.after h c v succeeds }
 {
+    settle_known(hart, image, words, None, succeeds);
+}
+
+/// Does a hart's next step as `settle` does, given its instruction too, if that is known.
+pub fn settle_known<A: Allocator>(
+    hart: &mut Hart,
+    image: &Image<A>,
+    words: ToldWords,
+    instr: Option<Instr>,
+    succeeds: bool,
+)
+    requires { IfSome instr (λ i. Ok i ≡ instruction_at
+        (told_memory (image_memory image.now) words.code words.touched None) hart.old.pc) }
+    ensures { (c v : WordBytes) → let t = table (image_memory image.now) in let h = hart_of hart.old in
+        words.code ≡ told_word (t.need h) c → words.touched ≡ told_word (word_in (t.plan h c)) v
+        → hart_of hart.new ≡ t.after h c v succeeds }
+{
     let mut memory = memory_of(image, words);
-    told_step(hart, &mut memory, succeeds);
+    let known = memory.look_up(hart.pc, instr);
+    let access = access_if(hart, known.found);
+    told_step(hart, &mut memory, known, access, succeeds);
 }
 
 /// Does a hart's next step as `settle` does. Returns the bytes of the touched word after it, if it
@@ -239,16 +271,40 @@ pub fn settle_store<A: Allocator>(
         code ≡ told_word (t.need h) c → Some touched ≡ told_word (word_in (t.plan h c)) v
         → result ≡ t.stored h c v }
 {
-    let before = *hart;
+    settle_known_store(hart, image, code, touched, None, succeeds)
+}
+
+/// Does a hart's next step as `settle_store` does, given its instruction too, if that is known.
+pub fn settle_known_store<A: Allocator>(
+    hart: &mut Hart,
+    image: &Image<A>,
+    code: Option<Word>,
+    touched: Word,
+    instr: Option<Instr>,
+    succeeds: bool,
+) -> [u8; 4]
+    requires { IfSome instr (λ i. Ok i ≡ instruction_at
+        (told_memory (image_memory image.now) code (Some touched) None) hart.old.pc) }
+    ensures after { (c v : WordBytes) → let t = table (image_memory image.now) in let h = hart_of hart.old in
+        code ≡ told_word (t.need h) c → Some touched ≡ told_word (word_in (t.plan h c)) v
+        → hart_of hart.new ≡ t.after h c v succeeds }
+    ensures stored { (c v : WordBytes) → let t = table (image_memory image.now) in let h = hart_of hart.old in
+        code ≡ told_word (t.need h) c → Some touched ≡ told_word (word_in (t.plan h c)) v
+        → result ≡ t.stored h c v }
+{
     let words = ToldWords {
         code,
         touched: Some(touched),
     };
     let mut memory = memory_of(image, words);
-    let access = told_step(hart, &mut memory, succeeds);
+    let known = memory.look_up(hart.pc, instr);
+    let access = access_if(hart, known.found);
     if tries_by(access) && !succeeds {
-        return stored_bytes(before, image, words, touched.address);
+        let stored = stored_bytes(*hart, image, words, touched.address);
+        told_step(hart, &mut memory, known, access, false);
+        return stored;
     }
+    told_step(hart, &mut memory, known, access, succeeds);
     memory.word_at(touched.address).bytes
 }
 
@@ -265,6 +321,8 @@ fn stored_bytes<A: Allocator>(
 {
     let mut hart = hart;
     let mut memory = memory_of(image, words);
-    told_step(&mut hart, &mut memory, true);
+    let known = memory.look_up(hart.pc, None);
+    let access = access_if(&hart, known.found);
+    told_step(&mut hart, &mut memory, known, access, true);
     memory.word_at(address).bytes
 }

@@ -1,5 +1,5 @@
 //! An image's memory with the words that a step is given.
-ghost use Rattle.std.specs.Prelude.{◌≡◌, ◌⊎◌, ℕ, ◌+◌, ◌<◌, ◌≤◌, true, false, length, IfSome};
+ghost use Rattle.std.specs.Prelude.{◌≡◌, ◌⊎◌, ℕ, ◌+◌, ◌<◌, ◌≤◌, true, false, length, Ok, IfSome};
 ghost use Rattle.std.specs.Option.{ForSome};
 ghost use Rattle.std.specs.Option.{is_some};
 ghost use Rattle.mem_store.specs.Memory.{around, granted, number_at, to_execute, to_load, to_write};
@@ -232,12 +232,17 @@ impl<'a, A: Allocator> ToldMemory<'a, A> {
         is_mapped(self.image.segments(), u64::from(address))
     }
 
-    /// The instruction at an address, or why there is none.
-    pub fn look_up(&self, address: u32) -> KnownInstr
+    /// The instruction at an address, or why there is none: `instr`, if that is given.
+    #[inline]
+    pub fn look_up(&self, address: u32, instr: Option<Instr>) -> KnownInstr
+        requires { IfSome instr (λ i. Ok i ≡ instruction_at (told_memory (image_memory self.now.image.now) self.now.code self.now.touched self.now.target) address) }
         ensures address { result.address ≡ address }
         ensures found { result.found ≡ instruction_at (told_memory (image_memory self.now.image.now) self.now.code self.now.touched self.now.target) address }
     {
-        let found = self.instruction(address);
+        let found = match instr {
+            Some(instr) => Ok(instr),
+            None => self.instruction(address),
+        };
         KnownInstr { address, found }
     }
 

@@ -1,6 +1,6 @@
 -- A hart's pc stays a multiple of 4, so the word that holds its instruction does too.
-use Rattle.std.proofs.Common.{◌≡◌, ℕ, zero, suc, ◌%◌, ◌^◌, Bool, true, false, List, [], ◌∷◌, Option, Some, None, refl, ap, subst, sym, ◌∙◌, arith}
-use Rattle.std.specs.Prelude.{slice_index, if◌then◌else◌}
+use Rattle.std.proofs.Common.{◌≡◌, ℕ, zero, suc, ◌%◌, ◌^◌, Bool, true, false, List, [], ◌∷◌, Option, Some, None, subst, sym, arith}
+use Rattle.std.specs.Prelude.{if◌then◌else◌}
 use Rattle.image.specs.Image.{ImageValue}
 use Rattle.mem_store.specs.Memory.{Memory}
 use Rattle.mem_store.specs.Image.{image_memory}
@@ -63,6 +63,6 @@ pub word_aligned : (image : ImageValue) (l : HartLogValue) (w : Walked) (x : ℕ
 word_aligned image l w x walked entry need =
     needed_aligned (image_memory image) (hart_of w.slot.hart) x
     (subst IsAligned (sym walked.reached)
-    (local_aligned (image_memory l.image) w.local (logged_slot l).hart
+    (local_aligned (image_memory l.image) w.next.local (logged_slot l).hart
     (logged_aligned l (subst (λ (m : ImageValue). m.entry % 4 ≡ 0) (sym walked.same_image) entry))))
     need

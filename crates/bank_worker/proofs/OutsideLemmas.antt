@@ -1,5 +1,5 @@
 -- A step whose code is read from memory: what its banks and its hart's log take of it.
-use Rattle.std.proofs.Common.{◌≡◌, ℕ, ◌+◌, ◌%◌, ◌<◌, ◌≤◌, ◌&&◌, ◌==◌, Bool, true, false, List, [], ◌∷◌, ◌++◌, length, Option, Some, None, refl, ap, ap₂, sym, subst, ◌∙◌, arith}
+use Rattle.std.proofs.Common.{◌≡◌, ℕ, ◌%◌, ◌<◌, ◌&&◌, ◌==◌, Bool, true, false, List, [], ◌∷◌, ◌++◌, length, Option, Some, None, refl, ap, ap₂, sym, subst, ◌∙◌, arith}
 use Rattle.std.specs.Prelude.{not, nat_lt}
 use Rattle.std.proofs.lemmas.Bool.{and_from, and_parts, eq-eqb, or_right}
 use Rattle.image.specs.Image.{ImageValue}
@@ -18,7 +18,7 @@ use Rattle.bank_memory.specs.Stamps.{last_access_stamp, next_stamp}
 use Rattle.bank_memory.proofs.OrderLemmas.{follows_above}
 use Rattle.bank_memory.proofs.StampLemmas.{greatest_is, next_above}
 use Rattle.bank_hart_log.specs.HartLog.{FitsLog, HartLogValue, StepsAreLocal, image_table, logged_slot}
-use Rattle.bank_hart_log.specs.LastStep.{DataFits, IsCodeRead, IsTouch, slot_is, succeeds_at}
+use Rattle.bank_hart_log.specs.LastStep.{DataFits, IsCodeRead, IsTouch, slot_is}
 use Rattle.bank_worker.specs.declared.step.Walked.{Walked}
 use Rattle.bank_worker.specs.Walked.{IsWalked}
 use Rattle.bank_worker.specs.Worked.{IsNextIn, IsOfWalk}
@@ -109,7 +109,7 @@ step_fits T e s x a xs need has read rest =
 abbrev with_both : LoggedSegment → LoggedAccess → List LoggedAccess → LoggedSegment
 with_both e a xs = record e { accesses = a ∷ xs }
 
-module _ (image : ImageValue) (l : HartLogValue) (e : LoggedSegment) (w : Walked) (walked : IsWalked image l w) (of : IsOfWalk w e) where
+module _ (image : ImageValue) (l : HartLogValue) (e : LoggedSegment) (w : Walked) (walked : IsWalked image l w) (of : IsOfWalk w.next e) where
   slots : slot_is w.slot ≡ local_slot (image_table l.image) e.local (logged_slot l)
   slots = ap₂ (λ (h : HartValue) (n : Option ℕ). record { hart = h; named = n })
       (walked.reached ∙ ap (λ n. local_hart (image_table l.image) n (logged_slot l).hart) (sym of.local)) walked.named
@@ -139,5 +139,5 @@ module _ (image : ImageValue) (l : HartLogValue) (e : LoggedSegment) (w : Walked
       (sym (ap ((image_table image).plan (hart_of w.slot.hart)) bytes ∙ plan))
       (ap (λ (y : LoggedAccess). y ∷ []) (subst (λ (v : WordBytes). IsTouch (image_table image) e (slot_is w.slot) v t d) (sym bytes) touch)))
 
-  pub of_walk_with : (xs : List LoggedAccess) → IsOfWalk w (record e { accesses = xs })
+  pub of_walk_with : (xs : List LoggedAccess) → IsOfWalk w.next (record e { accesses = xs })
   of_walk_with xs = record { hart = of.hart; local = of.local; refuse = of.refuse; above = of.above }

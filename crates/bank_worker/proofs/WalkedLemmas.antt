@@ -1,6 +1,9 @@
 -- What a step of code may log, and the stamp of its access.
 use Rattle.std.proofs.Common.{◌≡◌, ℕ, ◌<◌, ◌%◌, ◌++◌, Bool, List, [], ◌∷◌, Option, Some, None, length, refl, ap, sym, subst, ◌∙◌, arith}
+use Rattle.std.specs.Prelude.{option_map}
 use Rattle.image.specs.Image.{ImageValue}
+use Rattle.mem_store.specs.Memory.{Memory}
+use Rattle.mem_store.specs.Image.{image_memory}
 use Rattle.hart_reservations.specs.Marks.{names}
 use Rattle.hart_step.specs.Hart.{HartValue, hart_of}
 use Rattle.bank_laws.specs.declared.access.LoggedAccess.{LoggedAccess}
@@ -8,17 +11,23 @@ use Rattle.bank_laws.specs.Banks.{WordBytes, Finds}
 use Rattle.bank_laws.specs.Runs.{StepTable, Touch}
 use Rattle.bank_laws.specs.Segments.{LoggedSegment, HartSlot, code_reads, data_accesses, given_bytes}
 use Rattle.bank_laws.specs.Merged.{bank_of}
+use Rattle.bank_laws.specs.Table.{table}
+use Rattle.bank_step.specs.declared.steps.CodeTouch.{CodeTouch}
+use Rattle.bank_step.specs.declared.steps.PlannedTouch.{PlannedTouch}
+use Rattle.bank_step.specs.Known.{IsCodeTouch}
+use Rattle.bank_step.specs.Told.{as_touch, told_word}
 use Rattle.bank_memory.specs.BankLog.{BankLog, bank_with_access, state_of, FitsBank, IsOfBank}
 use Rattle.bank_memory.specs.Stamps.{last_access_stamp, next_stamp}
 use Rattle.bank_memory.proofs.OrderLemmas.{follows_above}
 use Rattle.bank_memory.proofs.StampLemmas.{greatest_is, last_push, next_above}
 use Rattle.bank_laws.specs.HartLogs.{StepFits, first, local_hart, local_slot, plan_of}
-use Rattle.bank_hart_log.specs.HartLog.{HartLogValue, StepsAreLocal, image_table, last_segment_stamp, logged_slot, with_access, FitsLog, TouchesNext}
+use Rattle.bank_hart_log.specs.HartLog.{HartLogValue, StepsAreLocal, image_table, last_segment_stamp, logged_slot, with_access, FitsLog, IsAheadTouch, TouchesNext}
+use Rattle.bank_worker.specs.declared.step.NextSegment.{NextSegment}
 use Rattle.bank_worker.specs.declared.step.Walked.{Walked}
-use Rattle.bank_worker.specs.Walked.{IsWalked}
+use Rattle.bank_worker.specs.Walked.{IsNextOf, IsWalked}
 use Rattle.bank_worker.specs.Worked.{IsOfWalk, IsStampedNext}
 
-module _ (image : ImageValue) (l : HartLogValue) (e : LoggedSegment) (w : Walked) (walked : IsWalked image l w) (of : IsOfWalk w e) where
+module _ (image : ImageValue) (l : HartLogValue) (e : LoggedSegment) (w : Walked) (walked : IsWalked image l w) (of : IsOfWalk w.next e) where
   reached : hart_of w.slot.hart ≡ local_hart (image_table l.image) e.local (logged_slot l).hart
   reached = walked.reached ∙ ap (λ n. local_hart (image_table l.image) n (logged_slot l).hart) (sym of.local)
 
@@ -34,15 +43,6 @@ module _ (image : ImageValue) (l : HartLogValue) (e : LoggedSegment) (w : Walked
       → (image_table l.image).plan (local_hart (image_table l.image) e.local (logged_slot l).hart) [] ≡ t
   plans t plan = ap (λ (v : HartValue). (image_table l.image).plan v []) (sym reached)
       ∙ ap (λ (m : ImageValue). (image_table m).plan (hart_of w.slot.hart) []) walked.same_image ∙ plan
-
-  pub touches_next : (t : Touch) → (image_table image).need (hart_of w.slot.hart) ≡ None
-      → (image_table image).plan (hart_of w.slot.hart) [] ≡ Some t → TouchesNext l e t
-  touches_next t need plan = record {
-    hart = of.hart ∙ walked.number;
-    local = locals;
-    need = needs need;
-    plan = plans (Some t) plan;
-  }
 
   pub fits_alone : e.accesses ≡ [] → (image_table image).need (hart_of w.slot.hart) ≡ None
       → (image_table image).plan (hart_of w.slot.hart) [] ≡ None → FitsLog l e
@@ -62,6 +62,35 @@ module _ (image : ImageValue) (l : HartLogValue) (e : LoggedSegment) (w : Walked
       alone T e s bare need plan =
           bare ∙ sym (none T e s (T.need s.hart) _ _ _ _ _ (plan_of T e s) need
           (ap (T.plan s.hart) (ap (λ (o : Option ℕ). given_bytes o (first e.accesses).value) need) ∙ plan))
+
+-- a touch ahead of a log is the next segment's
+pub touches_next : (l : HartLogValue) (e : LoggedSegment) (n : NextSegment) (t : CodeTouch) → IsNextOf l n → IsOfWalk n e
+    → IsAheadTouch l (record { local = n.local; touch = t }) → TouchesNext l e t
+touches_next l e n t next of ahead = record {
+  hart = of.hart ∙ next.number;
+  local = subst (λ (k : ℕ). StepsAreLocal l.image k (logged_slot l).hart) (sym of.local) ahead.local;
+  touches = subst (λ (k : ℕ). IsCodeTouch (image_memory l.image) (local_hart (image_table l.image) k (logged_slot l).hart) t) (sym of.local) ahead.touches;
+}
+
+-- the touch of a walked hart is ahead of its log
+pub walked_touches : (image : ImageValue) (l : HartLogValue) (w : Walked) (t : CodeTouch) → IsWalked image l w → IsCodeTouch (image_memory image) (hart_of w.slot.hart) t
+    → IsAheadTouch l (record { local = w.next.local; touch = t })
+walked_touches image l w t walked touches = record {
+  local = walked.local;
+  touches = subst (λ (v : HartValue). IsCodeTouch (image_memory l.image) v t) walked.reached
+      (subst (λ (m : ImageValue). IsCodeTouch (image_memory m) (hart_of w.slot.hart) t) (sym walked.same_image) touches);
+}
+
+-- a touch that was planned without a table
+pub planned_is_touch : (m : Memory) (v : HartValue) (t : PlannedTouch) → (table m).need v ≡ None
+    → ((c : WordBytes) → None ≡ told_word ((table m).need v) c → option_map as_touch (Some t) ≡ (table m).plan v c) → t.word % 4 ≡ 0
+    → IsCodeTouch m v (record { touch = t; instr = None })
+planned_is_touch m v t need plan aligned = record {
+  need = need;
+  plan = sym (plan [] (sym (ap (λ (o : Option ℕ). told_word o []) need)));
+  instr = tt;
+  aligned = aligned;
+}
 
 -- the one access of a segment has its stamp
 first_stamp : List LoggedAccess → ℕ

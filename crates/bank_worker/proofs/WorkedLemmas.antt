@@ -1,5 +1,5 @@
 -- What a hart's thread keeps true of its log.
-use Rattle.std.proofs.Common.{◌≡◌, ℕ, ◌+◌, ◌-◌, ◌<◌, ◌≤◌, Bool, true, List, [], ◌∷◌, ◌++◌, length, inl, inr, refl, ap, sym, ◌∙◌, subst, arith, Ok, Err}
+use Rattle.std.proofs.Common.{◌≡◌, ℕ, ◌+◌, ◌-◌, ◌<◌, ◌≤◌, true, List, [], ◌∷◌, ◌++◌, length, inl, inr, refl, ap, sym, ◌∙◌, subst, arith, Ok, Err}
 use Rattle.std.specs.List.{AllByRecursion}
 use Rattle.std.specs.Prelude.{Result, OnOk}
 use Rattle.image.specs.Image.{ImageValue}
@@ -10,7 +10,7 @@ use Rattle.bank_laws.specs.Order.{Rises, Earlier}
 use Rattle.bank_memory.proofs.StampLemmas.{below_last}
 use Rattle.bank_order.specs.Merged.{choices_in}
 use Rattle.bank_hart_log.specs.HartLog.{HartLogValue, last_segment_stamp, logged_slot, segment_stamp, with_segment}
-use Rattle.bank_worker.specs.declared.step.Walked.{Walked}
+use Rattle.bank_worker.specs.declared.step.NextSegment.{NextSegment}
 use Rattle.bank_worker.specs.Worked.{AddsSegment, AddsStep, IsOfWalk, IsWorking, LogHasEnded, LogIsFlagged}
 
 -- ---- one segment more
@@ -47,7 +47,7 @@ rises_more (x ∷ es) e rises above =
     above rises
 
 -- ---- one step of the thread
-pub works_on : (image : ImageValue) (h budget : ℕ) (plan : List (ℕ × ℕ)) (l after : HartLogValue) (w : Walked) (made more : ℕ)
+pub works_on : (image : ImageValue) (h budget : ℕ) (plan : List (ℕ × ℕ)) (l after : HartLogValue) (w : NextSegment) (made more : ℕ)
     → IsWorking image h budget plan l made → AddsStep l after w → w.refuse ≡ is_planned plan h (made + w.local)
     → w.last_stamp ≡ last_segment_stamp l.log → more ≡ made + (w.local + 1) → more ≤ budget → IsWorking image h budget plan after more
 works_on image h budget plan l after w made more works step flag stamp sum room =
@@ -63,17 +63,21 @@ works_on image h budget plan l after w made more works step flag stamp sum room 
     } in
     subst (λ (x : HartLogValue). IsWorking image h budget plan x more) (sym step.adds) next
 
-pub adds_step : (old new : HartLogValue) (e : LoggedSegment) (w : Walked) → AddsSegment old new e → IsOfWalk w e → AddsStep old new w
+pub adds_step : (old new : HartLogValue) (e : LoggedSegment) (w : NextSegment) → AddsSegment old new e → IsOfWalk w e → AddsStep old new w
 adds_step old new e w added of = record {
   segment = record e { accesses = added.accesses };
   adds = added.adds;
   walked = record { hart = of.hart; local = of.local; refuse = of.refuse; above = of.above };
 }
 
-pub steps_on : (old new : HartLogValue) (e : LoggedSegment) (w : Walked) → new ≡ with_segment old e → IsOfWalk w e → AddsStep old new w
+pub adds_step_ok : {T E : Type 0} (r : Result T E) (old new : HartLogValue) (e : LoggedSegment) (w : NextSegment) → OnOk r (AddsSegment old new e) → IsOfWalk w e → OnOk r (AddsStep old new w)
+adds_step_ok (Ok x) old new e w added of = adds_step old new e w added of
+adds_step_ok (Err fault) old new e w added of = tt
+
+pub steps_on : (old new : HartLogValue) (e : LoggedSegment) (w : NextSegment) → new ≡ with_segment old e → IsOfWalk w e → AddsStep old new w
 steps_on old new e w adds of = record { segment = e; adds = adds; walked = of }
 
-pub steps_on_ok : {T E : Type 0} (r : Result T E) (old new : HartLogValue) (e : LoggedSegment) (w : Walked) → IsOfWalk w e → OnOk r (new ≡ with_segment old e) → OnOk r (AddsStep old new w)
+pub steps_on_ok : {T E : Type 0} (r : Result T E) (old new : HartLogValue) (e : LoggedSegment) (w : NextSegment) → IsOfWalk w e → OnOk r (new ≡ with_segment old e) → OnOk r (AddsStep old new w)
 steps_on_ok (Ok x) old new e w of adds = steps_on old new e w adds of
 steps_on_ok (Err fault) old new e w of adds = tt
 

@@ -11,7 +11,7 @@ use Rattle.bank_memory.specs.Rising.{may_follow}
 use Rattle.bank_memory.specs.Stamps.{last_access_stamp, next_stamp}
 use Rattle.bank_order.specs.Merged.{choices_in}
 use Rattle.bank_hart_log.specs.HartLog.{HartLogValue, last_segment_stamp, logged_slot, with_segment}
-use Rattle.bank_worker.specs.declared.step.Walked.{Walked}
+use Rattle.bank_worker.specs.declared.step.NextSegment.{NextSegment}
 
 -- each segment of hart h, after the choices made so far, is refused exactly if the plan has the
 -- hart and the number of the segment's last choice, counted from 0
@@ -26,11 +26,20 @@ LogHasEnded budget l = (choices_in l.log ≤ budget)
     × ((is_stopped (logged_slot l).hart.state ≡ true) ⊎ (choices_in l.log ≡ budget))
 
 -- a segment has the walked steps, their hart and refusal, and a stamp above the hart's last one
-pub record IsOfWalk (w : Walked) (e : LoggedSegment) : Type 0 where
+pub record IsOfWalk (w : NextSegment) (e : LoggedSegment) : Type 0 where
   pub hart : e.hart ≡ w.hart
   pub local : e.local ≡ w.local
   pub refuse : e.refuse ≡ w.refuse
   pub above : w.last_stamp < e.stamp
+
+-- the segment that a log's hart logs next, after the choices made so far, with `local` local steps
+abbrev pub next_segment : HartLogValue → List (ℕ × ℕ) → ℕ → ℕ → NextSegment
+next_segment l plan made local = record {
+  hart = l.hart;
+  local = local;
+  refuse = is_planned plan l.hart (made + local);
+  last_stamp = last_segment_stamp l.log;
+}
 
 -- a log has one more segment: a given one, with accesses
 pub record AddsSegment (old new : HartLogValue) (e : LoggedSegment) : Type 0 where
@@ -38,7 +47,7 @@ pub record AddsSegment (old new : HartLogValue) (e : LoggedSegment) : Type 0 whe
   pub adds : new ≡ with_segment old (record e { accesses = accesses })
 
 -- a log has one more segment, of the walked steps
-pub record AddsStep (old new : HartLogValue) (w : Walked) : Type 0 where
+pub record AddsStep (old new : HartLogValue) (w : NextSegment) : Type 0 where
   pub segment : LoggedSegment
   pub adds : new ≡ with_segment old segment
   pub walked : IsOfWalk w segment

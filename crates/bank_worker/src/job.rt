@@ -6,6 +6,7 @@ ghost use Rattle.hart_local.specs.CodeMemory.{code_in};
 ghost use Rattle.bank_laws.specs.Merged.{most_banks};
 
 use bank_memory::{BANKS, Bank};
+use bank_step::InstrTable;
 use hart_local::Code;
 use image::Image;
 use std::alloc::{AllocError, Allocator};
@@ -18,12 +19,14 @@ pub struct Job<'a, A: Allocator> {
     pub(crate) image: &'a Image<A>,
     pub(crate) inputs: &'a [u32],
     pub(crate) code: Code<A>,
+    pub(crate) instrs: InstrTable<'a, A>,
     pub(crate) budget: u32,
     pub(crate) plan: &'a Plan<A>,
     banks: Vec<Mutex<Bank<'a, A>>, A>,
     ghost sixteen: { vec_len banks ≡ 16 },
     ghost few: { length inputs.now ≤ 32 },
     ghost its_code: { segments_memory code ≡ code_in (image_memory image.now) },
+    ghost its_instrs: { instrs ≡ image.now },
 }
 
 impl<'a, A: Allocator + Copy> Job<'a, A> {
@@ -40,6 +43,7 @@ impl<'a, A: Allocator + Copy> Job<'a, A> {
         ensures limits { IfOk result (λ job. (job.budget ≡ budget) × (job.plan.now ≡ plan.now)) }
     {
         let code = Code::new(alloc, image)?;
+        let instrs = InstrTable::new(alloc, image)?;
         let mut banks = Vec::with_capacity(alloc, BANKS as usize)?;
         'banks: for number in 0..BANKS {
             let bank = Bank::new(alloc, image, inputs, number);
@@ -51,6 +55,7 @@ impl<'a, A: Allocator + Copy> Job<'a, A> {
             image,
             inputs,
             code,
+            instrs,
             budget,
             plan,
             banks,

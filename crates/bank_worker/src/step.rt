@@ -5,10 +5,10 @@ ghost use Rattle.hart_step.specs.Hart.{hart_of};
 ghost use Rattle.bank_laws.specs.Merged.{bank_of};
 ghost use Rattle.bank_memory.specs.BankLog.{bank_with_access, state_of, FitsBank};
 ghost use Rattle.bank_memory.specs.Stamps.{last_access_stamp, next_stamp};
-ghost use Rattle.bank_hart_log.specs.HartLog.{image_table, last_segment_stamp, with_segment, FitsLog, TouchesNext};
+ghost use Rattle.bank_hart_log.specs.HartLog.{image_table, last_segment_stamp, with_segment, FitsLog, IsAheadTouch, TouchesNext};
 ghost use Rattle.bank_hart_log.specs.LastStep.{slot_is, IsCodeRead, IsTouch};
 ghost use Rattle.bank_step.specs.Told.{as_touch};
-ghost use Rattle.bank_worker.specs.Walked.{IsWalked};
+ghost use Rattle.bank_worker.specs.Walked.{IsNextOf, IsWalked};
 ghost use Rattle.bank_worker.specs.Worked.{AddsSegment, AddsStep, IsNextIn, IsOfWalk, IsStampedNext};
 ghost use Rattle.bank_worker.specs.declared.fault.StepFault.{StepFault};
 
@@ -18,7 +18,7 @@ use bank_hart_log::{Found, HartLog, Slot, code_access, data_access};
 use bank_laws::LoggedAccess;
 use bank_memory::{BANKS, Bank, each_bank_is_logged, next_stamp};
 use bank_order::LogSegment;
-use bank_step::{PlannedTouch, Word, needed_word, planned_touch};
+use bank_step::{CodeTouch, PlannedTouch, Word, needed_word, planned_touch};
 use image::Image;
 use std::alloc::Allocator;
 use std::sync::{MutexGuard, Wait};
@@ -27,19 +27,24 @@ use thread_gate::Gate;
 // The last bank's place.
 const LAST_PLACE: usize = 15;
 
-/// A segment of a hart before its stamp and its accesses are known, and the slot before its last
-/// step.
+/// A segment of a hart before its stamp and its accesses are known.
 #[derive(Clone, Copy)]
-pub struct Walked {
+pub struct NextSegment {
     pub hart: u32,
     pub local: u32,
     pub refuse: bool,
-    pub slot: Slot,
     /// The stamp of the hart's last segment.
     pub last_stamp: u64,
 }
 
-impl Walked {
+/// A hart's next segment, and the slot before its last step.
+#[derive(Clone, Copy)]
+pub struct Walked {
+    pub next: NextSegment,
+    pub slot: Slot,
+}
+
+impl NextSegment {
     // The segment with the stamp after the hart's last one and those of banks, and no accesses yet.
     fn stamped(&self, banks: &[u64]) -> Result<LogSegment, StepFault>
         ensures walked { IfOk result (λ e. IsOfWalk self.now e) }
@@ -119,20 +124,19 @@ fn commit<A: Allocator + Copy>(
     log: &mut HartLog<A>,
     bank: &mut Bank<A>,
     segment: LogSegment,
-    touch: PlannedTouch,
+    touch: CodeTouch,
 ) -> Result<(), StepFault>
     requires few { segment.hart < 32 }
     requires there { segment.hart < length bank.old.inputs }
-    requires next { TouchesNext log.old segment (as_touch touch) }
-    requires aligned { touch.word % 4 ≡ 0 }
-    requires its_bank { bank_of touch.word ≡ bank.old.number }
+    requires next { TouchesNext log.old segment touch }
+    requires its_bank { bank_of touch.touch.word ≡ bank.old.number }
     requires stamp { next_stamp (last_segment_stamp log.old.log) (last_access_stamp bank.old.log ∷ []) ≡ Some segment.stamp }
     ensures added { OnOk result (AddsSegment log.old log.new segment) }
     ensures stamped { OnOk result (IsStampedNext log.old bank.old bank.new) }
     ensures fault { IfErr result (λ fault. fault ≡ StepFault.Memory) }
 {
     each_bank_is_logged(bank);
-    let found = found_in(bank, segment.hart, touch.word);
+    let found = found_in(bank, segment.hart, touch.touch.word);
     let Ok(access) = log.add_touch(segment, touch, found) else {
         return Err(StepFault::Memory);
     };
@@ -143,8 +147,33 @@ fn commit<A: Allocator + Copy>(
     }
 }
 
+/// Does the last step of a segment whose instruction is code and which touches a word, under the
+/// lock of the word's bank. Its stamp is made under that lock.
+pub fn step_to_word<A: Allocator + Copy, G: Gate, R: Wait>(
+    rt: &R,
+    job: &Job<A>,
+    gate: &G,
+    log: &mut HartLog<A>,
+    next: &NextSegment,
+    touch: CodeTouch,
+) -> Result<(), StepFault>
+    requires few { next.now.hart < 32 }
+    requires next { IsNextOf log.old next.now }
+    requires touches { IsAheadTouch log.old (record { local = next.now.local; touch = touch }) }
+    ensures { OnOk result (AddsStep log.old log.new next.now) }
+{
+    let place = place_of(touch.touch.word);
+    let mut bank = job.banks()[place].lock(rt);
+    if bank.number() != place as u32 || next.hart as usize >= bank.inputs().len() {
+        return Err(StepFault::OtherBank);
+    }
+    let segment = next.stamped(&[bank.last_stamp()])?;
+    gate.held(next.hart, place as u32);
+    commit(log, &mut bank, segment, touch)
+}
+
 // Does the last step of a segment whose instruction is code, under the lock of the bank that it
-// touches, if it touches one. Its stamp is made under that lock.
+// touches, if it touches one.
 fn step_in_code<A: Allocator + Copy, G: Gate, R: Wait>(
     rt: &R,
     job: &Job<A>,
@@ -152,23 +181,17 @@ fn step_in_code<A: Allocator + Copy, G: Gate, R: Wait>(
     log: &mut HartLog<A>,
     walked: &Walked,
 ) -> Result<(), StepFault>
-    requires few { walked.now.hart < 32 }
+    requires few { walked.now.next.hart < 32 }
     requires next { IsWalked job.now.image.now log.old walked.now }
     requires code { (image_table job.now.image.now).need (hart_of walked.now.slot.hart) ≡ None }
-    ensures { OnOk result (AddsStep log.old log.new walked.now) }
+    ensures { OnOk result (AddsStep log.old log.new walked.now.next) }
 {
     let Some(touch) = planned_touch(&walked.slot.hart, job.image, None) else {
-        let segment = walked.stamped(&[])?;
+        let segment = walked.next.stamped(&[])?;
         return log_segment(log, segment);
     };
-    let place = place_of(touch.word);
-    let mut bank = job.banks()[place].lock(rt);
-    if bank.number() != place as u32 || walked.hart as usize >= bank.inputs().len() {
-        return Err(StepFault::OtherBank);
-    }
-    let segment = walked.stamped(&[bank.last_stamp()])?;
-    gate.held(walked.hart, place as u32);
-    commit(log, &mut bank, segment, touch)
+    let touch = CodeTouch { touch, instr: None };
+    step_to_word(rt, job, gate, log, &walked.next, touch)
 }
 
 // Whether the bank behind a lock is the one of that place, and has a hart of this number.
@@ -264,15 +287,15 @@ fn step_to_nothing<A: Allocator + Copy>(
     requires next { IsWalked job.now.image.now log.old walked.now }
     requires need { (image_table job.now.image.now).need (hart_of walked.now.slot.hart) ≡ Some code.address }
     requires plan { (image_table job.now.image.now).plan (hart_of walked.now.slot.hart) code.bytes ≡ None }
-    requires there { walked.now.hart < length bank.old.inputs }
+    requires there { walked.now.next.hart < length bank.old.inputs }
     requires aligned { code.address % 4 ≡ 0 }
     requires its_bank { bank_of code.address ≡ bank.old.number }
     requires bytes { (read.bytes ≡ code.bytes) × (read.bytes ≡ (state_of bank.old).values code.address) }
-    requires mark { read.mark ≡ names ((state_of bank.old).marks walked.now.hart) code.address }
-    ensures { OnOk result (AddsStep log.old log.new walked.now) }
+    requires mark { read.mark ≡ names ((state_of bank.old).marks walked.now.next.hart) code.address }
+    ensures { OnOk result (AddsStep log.old log.new walked.now.next) }
 {
     let stamps = [bank.last_stamp()];
-    let segment = walked.stamped(&stamps)?;
+    let segment = walked.next.stamped(&stamps)?;
     let code_read = log_read(bank, &segment, code.address, read)?;
     log_segment(log, with_accesses(segment, code_read, None))
 }
@@ -288,21 +311,21 @@ fn step_in_one_bank<A: Allocator + Copy>(
     read: Found,
     touch: PlannedTouch,
 ) -> Result<(), StepFault>
-    requires few { walked.now.hart < 32 }
+    requires few { walked.now.next.hart < 32 }
     requires next { IsWalked job.now.image.now log.old walked.now }
     requires need { (image_table job.now.image.now).need (hart_of walked.now.slot.hart) ≡ Some code.address }
     requires plan { (image_table job.now.image.now).plan (hart_of walked.now.slot.hart) code.bytes ≡ Some (as_touch touch) }
-    requires there { walked.now.hart < length bank.old.inputs }
+    requires there { walked.now.next.hart < length bank.old.inputs }
     requires aligned { code.address % 4 ≡ 0 }
     requires word { touch.word % 4 ≡ 0 }
     requires its_bank { (bank_of code.address ≡ bank.old.number) × (bank_of touch.word ≡ bank.old.number) }
     requires bytes { (read.bytes ≡ code.bytes) × (read.bytes ≡ (state_of bank.old).values code.address) }
-    requires mark { read.mark ≡ names ((state_of bank.old).marks walked.now.hart) code.address }
-    ensures { OnOk result (AddsStep log.old log.new walked.now) }
+    requires mark { read.mark ≡ names ((state_of bank.old).marks walked.now.next.hart) code.address }
+    ensures { OnOk result (AddsStep log.old log.new walked.now.next) }
 {
     each_bank_is_logged(bank);
     let stamps = [bank.last_stamp()];
-    let segment = walked.stamped(&stamps)?;
+    let segment = walked.next.stamped(&stamps)?;
     let code_read = log_read(bank, &segment, code.address, read)?;
     let access = log_touch(bank, job.image, &walked.slot, &segment, code, touch)?;
     log_segment(log, with_accesses(segment, code_read, Some(access)))
@@ -320,20 +343,22 @@ fn step_in_two_banks<A: Allocator + Copy>(
     read: Found,
     touch: PlannedTouch,
 ) -> Result<(), StepFault>
-    requires few { walked.now.hart < 32 }
+    requires few { walked.now.next.hart < 32 }
     requires next { IsWalked job.now.image.now log.old walked.now }
     requires need { (image_table job.now.image.now).need (hart_of walked.now.slot.hart) ≡ Some code.address }
     requires plan { (image_table job.now.image.now).plan (hart_of walked.now.slot.hart) code.bytes ≡ Some (as_touch touch) }
-    requires there { (walked.now.hart < length code_bank.old.inputs) × (walked.now.hart < length data_bank.old.inputs) }
+    requires there { (walked.now.next.hart < length code_bank.old.inputs) × (walked.now.next.hart < length data_bank.old.inputs) }
     requires aligned { code.address % 4 ≡ 0 }
     requires word { touch.word % 4 ≡ 0 }
     requires its_bank { (bank_of code.address ≡ code_bank.old.number) × (bank_of touch.word ≡ data_bank.old.number) }
     requires bytes { (read.bytes ≡ code.bytes) × (read.bytes ≡ (state_of code_bank.old).values code.address) }
-    requires mark { read.mark ≡ names ((state_of code_bank.old).marks walked.now.hart) code.address }
-    ensures { OnOk result (AddsStep log.old log.new walked.now) }
+    requires mark { read.mark ≡ names ((state_of code_bank.old).marks walked.now.next.hart) code.address }
+    ensures { OnOk result (AddsStep log.old log.new walked.now.next) }
 {
     each_bank_is_logged(data_bank);
-    let segment = walked.stamped(&[code_bank.last_stamp(), data_bank.last_stamp()])?;
+    let segment = walked
+        .next
+        .stamped(&[code_bank.last_stamp(), data_bank.last_stamp()])?;
     let code_read = log_read(code_bank, &segment, code.address, read)?;
     let access = log_touch(data_bank, job.image, &walked.slot, &segment, code, touch)?;
     log_segment(log, with_accesses(segment, code_read, Some(access)))
@@ -379,20 +404,20 @@ fn step_outside_code<A: Allocator + Copy, G: Gate, R: Wait>(
     walked: &Walked,
     word: u32,
 ) -> Result<(), StepFault>
-    requires few { walked.now.hart < 32 }
+    requires few { walked.now.next.hart < 32 }
     requires next { IsWalked job.now.image.now log.old walked.now }
     requires need { (image_table job.now.image.now).need (hart_of walked.now.slot.hart) ≡ Some word }
-    ensures { OnOk result (AddsStep log.old log.new walked.now) }
+    ensures { OnOk result (AddsStep log.old log.new walked.now.next) }
 {
     // Reading these gives the proof that the entry is a multiple of 4.
     let _ = job.image.segments();
     let mut held = lock_all(rt, alloc, job)?;
     let at = place_of(word);
     let mut code_bank = held.swap_remove(at);
-    if !is_in_place(&code_bank, at, walked.hart) {
+    if !is_in_place(&code_bank, at, walked.next.hart) {
         return Err(StepFault::OtherBank);
     }
-    let read = found_in(&code_bank, walked.hart, word);
+    let read = found_in(&code_bank, walked.next.hart, word);
     let bytes = read.bytes;
     let code = Word {
         address: word,
@@ -402,12 +427,12 @@ fn step_outside_code<A: Allocator + Copy, G: Gate, R: Wait>(
         return step_to_nothing(job, log, &mut code_bank, walked, code, read);
     };
     let place = place_of(touch.word);
-    gate.held(walked.hart, place as u32);
+    gate.held(walked.next.hart, place as u32);
     if place == at {
         return step_in_one_bank(job, log, &mut code_bank, walked, code, read, touch);
     }
     let mut data_bank = held.swap_remove(place_left(place, at));
-    if !is_in_place(&data_bank, place, walked.hart) {
+    if !is_in_place(&data_bank, place, walked.next.hart) {
         return Err(StepFault::OtherBank);
     }
     step_in_two_banks(
@@ -423,7 +448,8 @@ fn step_outside_code<A: Allocator + Copy, G: Gate, R: Wait>(
 }
 
 /// Logs a segment in its hart's log, and the accesses of its last step in the banks, under the
-/// locks of those banks. Its stamp is made under these locks, so neither log refuses it.
+/// locks of those banks. Its stamp is made under these locks, so neither log refuses it. The
+/// instruction is read from the image or from its bank.
 pub fn step<A: Allocator + Copy, G: Gate, R: Wait>(
     rt: &R,
     alloc: A,
@@ -432,9 +458,9 @@ pub fn step<A: Allocator + Copy, G: Gate, R: Wait>(
     log: &mut HartLog<A>,
     walked: &Walked,
 ) -> Result<(), StepFault>
-    requires few { walked.now.hart < 32 }
+    requires few { walked.now.next.hart < 32 }
     requires next { IsWalked job.now.image.now log.old walked.now }
-    ensures { OnOk result (AddsStep log.old log.new walked.now) }
+    ensures { OnOk result (AddsStep log.old log.new walked.now.next) }
 {
     match needed_word(&walked.slot.hart, job.image) {
         None => step_in_code(rt, job, gate, log, walked),

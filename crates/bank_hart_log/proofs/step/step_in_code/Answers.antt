@@ -1,4 +1,4 @@
-use Rattle.std.proofs.Common.{◌∙◌, sym, ap, List, [], ◌∷◌, Option}
+use Rattle.std.proofs.Common.{◌∙◌, sym, ap, [], ◌∷◌, Option}
 use Rattle.std.specs.Prelude.{option_to_list}
 use Rattle.bank_laws.specs.declared.access.LoggedAccess.{LoggedAccess}
 use Rattle.bank_hart_log.specs.HartLog.{image_table}

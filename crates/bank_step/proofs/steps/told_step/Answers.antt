@@ -16,11 +16,11 @@ begin-requires g c =
     let memory = c.args.memory.now in
     let m = image_memory memory.image.now in
     let pc = c.args.hart.now.pc in
-    let access = c.access_if-access.result in
-    instruction_stays m pc memory.code memory.touched c.word_by-target.result access c.look_up-known.result.found
-    (c.look_up-known.ensures.found ∙ ap (λ (t : Option Word). instruction_at (told_memory m memory.code memory.touched t) pc) c.requires)
-    (c.word_by-target.ensures ∙ ap (λ (t : Option Word). word_by (told_memory m memory.code memory.touched t).bytes access) c.requires)
-    ∙ ap (instruction_at (told_memory m memory.code memory.touched c.word_by-target.result)) (sym c.look_up-known.ensures.address)
+    let access = c.args.access in
+    instruction_stays m pc memory.code memory.touched c.word_by-target.result access c.args.known.found
+    (c.requires.found ∙ ap (λ (t : Option Word). instruction_at (told_memory m memory.code memory.touched t) pc) c.requires.target)
+    (c.word_by-target.ensures ∙ ap (λ (t : Option Word). word_by (told_memory m memory.code memory.touched t).bytes access) c.requires.target)
+    ∙ ap (instruction_at (told_memory m memory.code memory.touched c.word_by-target.result)) (sym c.requires.here)
 
 pub returns : goal.returns
 returns g c = λ c' v ok code touched asked.
@@ -28,14 +28,14 @@ returns g c = λ c' v ok code touched asked.
     let m = image_memory memory.image.now in
     let h = hart_of c.args.hart.now in
     let pc = c.args.hart.now.pc in
-    let access = c.access_if-access.result in
+    let access = c.args.access in
     let target = c.word_by-target.result in
     let r = marks c.reserve_of-reserve.result in
     told_leaves m (told_memory (image_memory c.step_hart.new.store.image.now) c.step_hart.new.store.code c.step_hart.new.store.touched c.step_hart.new.store.target)
     h (hart_of c.step_hart.new.hart) c' v c.args.succeeds ok memory.code memory.touched target access r (marks c.step_hart.new.reserve)
     code touched
-    (c.access_if-access.ensures ∙ ap (λ found. touched_if found h) (c.look_up-known.ensures.found ∙ ap (λ (t : Option Word). instruction_at (told_memory m memory.code memory.touched t) pc) c.requires))
-    (c.word_by-target.ensures ∙ ap (λ (t : Option Word). word_by (told_memory m memory.code memory.touched t).bytes access) c.requires)
+    (c.requires.access ∙ ap (λ found. touched_if found h) (c.requires.found ∙ ap (λ (t : Option Word). instruction_at (told_memory m memory.code memory.touched t) pc) c.requires.target))
+    (c.word_by-target.ensures ∙ ap (λ (t : Option Word). word_by (told_memory m memory.code memory.touched t).bytes access) c.requires.target)
     asked
     (c.reserve_of-reserve.ensures ∙ ap (λ (t : Option Word). if c.args.succeeds then option_map (λ (w : Word). w.address) t else None) c.begin.ensures.touched)
     (c.in-Ok.ensures.ok ∙ (λ i. stepped 0 false (site h (told_memory (image_memory (c.begin.ensures.image i)) (c.begin.ensures.code i) (c.begin.ensures.touched i) (c.begin.ensures.target i)) r)))

@@ -13,9 +13,9 @@ unreachable-requires g c =
     let finds = c.in-Ok.ensures.finds in
     let hart = touches.0 ∙ sym (ap (λ (e : LoggedSegment). e.hart) c.segment.view_is) in
     subst (λ (fault : AddFault). RefusesAccess bank access fault) c.in-Err-Mismatch.field-0-is c.in-Err-Mismatch.ensures.fault
-    (fits_bank bank c.args.log.now c.args.segment access c.args.touch.word c.each_bank_is_logged.ensures c.requires.there c.requires.aligned
+    (fits_bank bank c.args.log.now c.args.segment access c.args.touch.touch.word c.each_bank_is_logged.ensures c.requires.there c.requires.next.touches.aligned
     c.requires.its_bank c.requires.stamp touches.0 touches.1
-    (finds_here bank access c.segment.inside.hart c.args.touch.word c.found_in-found.result.bytes c.found_in-found.result.mark
+    (finds_here bank access c.segment.inside.hart c.args.touch.touch.word c.found_in-found.result.bytes c.found_in-found.result.mark
     finds.0 finds.1 c.found_in-found.ensures.bytes c.found_in-found.ensures.mark hart touches.1)
     c.in-Ok.ensures.ok.0)
 

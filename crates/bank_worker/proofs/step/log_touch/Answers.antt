@@ -1,4 +1,4 @@
-use Rattle.std.proofs.Common.{Option, ap, sym, ◌∙◌}
+use Rattle.std.proofs.Common.{ap, sym, ◌∙◌}
 use Rattle.hart_reservations.specs.Marks.{names}
 use Rattle.bank_laws.specs.Segments.{LoggedSegment}
 use Rattle.bank_memory.specs.BankLog.{state_of}

@@ -1,5 +1,4 @@
-use Rattle.std.proofs.Common.{[], ◌∷◌, ◌∙◌, ◌≡◌, ◌<◌, ap, arith, subst, sym, length}
-use Rattle.bank_laws.specs.Segments.{LoggedSegment}
+use Rattle.std.proofs.Common.{[], ◌∷◌, ◌∙◌, ◌<◌, ap, arith, subst, sym, length}
 use Rattle.bank_memory.specs.BankLog.{BankLog}
 use Rattle.bank_hart_log.specs.HartLog.{FitsLog}
 use Rattle.bank_step.specs.Told.{as_touch}
@@ -10,7 +9,7 @@ use Rattle.bank_worker.proofs.step.step_in_one_bank.Goals as goal
 
 pub log_read-requires-clause-above : goal.log_read-requires-clause-above
 log_read-requires-clause-above g c =
-    let low = above_one c.args.walked.now.last_stamp c.last_stamp.result c.in_ok-segment.segment.stamp c.in_ok-segment.ensures.stamp in
+    let low = above_one c.args.walked.now.next.last_stamp c.last_stamp.result c.in_ok-segment.segment.stamp c.in_ok-segment.ensures.stamp in
     omega (arith, low, c.last_stamp.ensures)
 
 pub log_touch-requires-clause-there : goal.log_touch-requires-clause-there
@@ -23,7 +22,7 @@ log_touch-requires-clause-its_bank g c = c.requires.its_bank.1 ∙ sym (ap (λ (
 
 pub log_touch-requires-clause-follows : goal.log_touch-requires-clause-follows
 log_touch-requires-clause-follows g c =
-    let low = above_one c.args.walked.now.last_stamp c.last_stamp.result c.in_ok-segment.segment.stamp c.in_ok-segment.ensures.stamp in
+    let low = above_one c.args.walked.now.next.last_stamp c.last_stamp.result c.in_ok-segment.segment.stamp c.in_ok-segment.ensures.stamp in
     next_behind_read c.args.bank.now _ c.in_ok-segment.segment c.args.code.address c.in_ok-code_read.code_read c.each_bank_is_logged.ensures
     (omega (arith, low, c.last_stamp.ensures)) c.in_ok-code_read.ensures.read.0 c.in_ok-code_read.ensures.added
 
@@ -36,7 +35,7 @@ log_segment-requires g c =
 
 pub returns : goal.returns
 returns g c =
-    steps_on_ok c.log_segment.result _ _ c.with_accesses.result c.args.walked.now
-    (subst (IsOfWalk c.args.walked.now) (sym c.with_accesses.ensures)
+    steps_on_ok c.log_segment.result _ _ c.with_accesses.result c.args.walked.now.next
+    (subst (IsOfWalk c.args.walked.now.next) (sym c.with_accesses.ensures)
     (of_walk_with c.args.job.now.image.now c.args.log.now c.in_ok-segment.segment c.args.walked.now c.requires.next c.in_ok-segment.ensures.walked (c.in_ok-code_read.code_read ∷ c.in_ok-access.access ∷ [])))
     c.log_segment.ensures.added

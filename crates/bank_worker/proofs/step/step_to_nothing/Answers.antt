@@ -1,5 +1,4 @@
 use Rattle.std.proofs.Common.{[], ◌∷◌, ◌∙◌, arith, subst, sym}
-use Rattle.bank_laws.specs.Segments.{LoggedSegment}
 use Rattle.bank_hart_log.specs.HartLog.{FitsLog}
 use Rattle.bank_worker.specs.Worked.{IsOfWalk}
 use Rattle.bank_worker.proofs.OutsideLemmas.{above_one, of_walk_with, read_fits_log}
@@ -8,7 +7,7 @@ use Rattle.bank_worker.proofs.step.step_to_nothing.Goals as goal
 
 pub log_read-requires-clause-above : goal.log_read-requires-clause-above
 log_read-requires-clause-above g c =
-    let low = above_one c.args.walked.now.last_stamp c.last_stamp.result c.in_ok-segment.segment.stamp c.in_ok-segment.ensures.stamp in
+    let low = above_one c.args.walked.now.next.last_stamp c.last_stamp.result c.in_ok-segment.segment.stamp c.in_ok-segment.ensures.stamp in
     omega (arith, low, c.last_stamp.ensures)
 
 pub log_segment-requires : goal.log_segment-requires
@@ -20,7 +19,7 @@ log_segment-requires g c =
 
 pub returns : goal.returns
 returns g c =
-    steps_on_ok c.log_segment.result _ _ c.with_accesses.result c.args.walked.now
-    (subst (IsOfWalk c.args.walked.now) (sym c.with_accesses.ensures)
+    steps_on_ok c.log_segment.result _ _ c.with_accesses.result c.args.walked.now.next
+    (subst (IsOfWalk c.args.walked.now.next) (sym c.with_accesses.ensures)
     (of_walk_with c.args.job.now.image.now c.args.log.now c.in_ok-segment.segment c.args.walked.now c.requires.next c.in_ok-segment.ensures.walked (c.in_ok-code_read.code_read ∷ [])))
     c.log_segment.ensures.added

@@ -1,4 +1,5 @@
-use Rattle.std.proofs.Common.{arith, subst, sym}
+use Rattle.std.proofs.Common.{ap, arith, refl, subst, sym, ◌+◌}
+use Rattle.thread_gate.specs.Plan.{is_planned}
 use Rattle.bank_hart_log.specs.HartLog.{HartLogValue}
 use Rattle.bank_worker.specs.Worked.{IsWorking}
 use Rattle.bank_worker.proofs.WorkedLemmas.{works_first, works_on}
@@ -11,8 +12,7 @@ choices-init g c =
 
 pub choices-preserved : goal.choices-preserved
 choices-preserved g c =
-    let limit = c.walk_ahead-local.ensures.limit in
-    works_on _ _ _ _ c.walk_ahead-local.new.self c.step.new.log _ c.choices.made _
-    (subst (λ (l : HartLogValue). IsWorking c.args.job.now.image.now c.args.hart c.args.job.now.budget c.args.job.now.plan.now.keys l c.choices.made)
-    (sym c.walk_ahead-local.ensures.same) c.choices.invariant)
-    c.in_ok-step.ensures c.is_planned.ensures c.last_stamp.ensures (omega arith) (omega (arith, limit))
+    let works = c.choices.invariant in
+    let room = c.in_ok-local.ensures.room in
+    works_on _ _ _ _ c.choices.log c.log_next.new.log _ c.choices.made _ works c.in_ok-local.ensures.adds
+    (ap (λ (h : _). is_planned c.args.job.now.plan.now.keys h (c.choices.made + c.in_ok-local.local)) works.number) refl (omega arith) (omega (arith, room))

@@ -1,6 +1,6 @@
 use Rattle.std.proofs.Common.{refl, sym, ◌∙◌}
 use Rattle.bank_memory.proofs.StampLemmas.{next_above_own}
-use Rattle.bank_worker.proofs.step.Walked.stamped.Goals as goal
+use Rattle.bank_worker.proofs.step.NextSegment.stamped.Goals as goal
 
 pub returns-in-Some-clause-walked : goal.returns-in-Some-clause-walked
 returns-in-Some-clause-walked c = record {
