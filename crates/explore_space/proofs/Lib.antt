@@ -1,4 +1,6 @@
 pub mod RestLemmas
+pub mod AloneLemmas
+pub mod HabitLemmas
 pub mod PastLemmas
 pub mod StandLemmas
 pub mod WorldLemmas

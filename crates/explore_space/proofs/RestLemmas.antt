@@ -109,7 +109,7 @@ module _ (section : Option Section) where
   still_rests w c None = refl
   still_rests w c (Some v) = ap (λ m. rest_steps section m at_once v) (step_code w c)
 
-  stride_stays : (w : World) (c : Choice) (h : ℕ) → (h ≡ c.hart → ⊥) → stride_of section (step w c) h ≡ stride_of section w h
+  pub stride_stays : (w : World) (c : Choice) (h : ℕ) → (h ≡ c.hart → ⊥) → stride_of section (step w c) h ≡ stride_of section w h
   stride_stays w c h other = ap (resting_steps section (step w c)) (other_step w c h other) ∙ still_rests w c (slice_get w.harts h)
 
   quiet_swaps : (w : World) (d c : Choice) → (d.hart ≡ c.hart → ⊥) → is_quiet section w d.hart ≡ true

@@ -1,4 +1,5 @@
 pub mod Resting
+pub mod Habits
 pub mod Places
 pub mod Begun
 pub mod Memo

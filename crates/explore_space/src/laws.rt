@@ -4,6 +4,7 @@ ghost use Rattle.machine.specs.World.{World};
 ghost use Rattle.property_judge.specs.Property.{harts_between};
 ghost use Rattle.explore_laws.specs.Covering.{WorldCovers};
 ghost use Rattle.explore_laws.specs.Quiet.{CanWait};
+ghost use Rattle.explore_space.specs.Habits.{Habits, clear_by_habit, quiet_by_habit, stride_by_habit};
 ghost use Rattle.explore_space.specs.Resting.{all_clear, is_quiet, stride_of};
 ghost use Rattle.explore_space.specs.declared.section.Section.{Section};
 
@@ -20,4 +21,11 @@ pub fn local_steps_can_wait()
 pub fn harts_in_a_section_are_seen()
     ensures { (section : Section) (s w : World) → WorldCovers (is_quiet (Some section)) s w
         → harts_between section.from section.to w.harts ≤ harts_between section.from section.to s.harts }
+{}
+
+/// Local steps and steps on a hart's own words can wait, where the steps of others are clear of those
+/// words.
+#[tactic(auto, using(crate::proofs::HabitLemmas::habits_wait))]
+pub fn own_steps_can_wait()
+    ensures { (habits : Habits) → CanWait (quiet_by_habit habits) (clear_by_habit habits) (stride_by_habit habits) }
 {}

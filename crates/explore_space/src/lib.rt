@@ -4,7 +4,7 @@
 pub use explore_bounds::Bound;
 pub use explorer::Explorer;
 pub use exploring::{Answer, Failing, Held, explore};
-pub use laws::{harts_in_a_section_are_seen, local_steps_can_wait};
+pub use laws::{harts_in_a_section_are_seen, local_steps_can_wait, own_steps_can_wait};
 pub use meant::ScRefusals;
 pub use own_bounds::OwnBounds;
 pub use question::{Always, Question};
