@@ -9,8 +9,9 @@ use Rattle.hart_local.specs.CodeMemory.{code_in}
 use Rattle.hart_local.specs.LocalRuns.{plain_choices}
 use Rattle.machine.specs.World.{World}
 use Rattle.explore_table.proofs.ListLemmas.{get_either}
-use Rattle.explore_laws.specs.Places.{Place, place_begun, place_settled}
-use Rattle.explore_space.specs.Begun.{begun_choices, first_steps, hart_begun, runs_outside, runs_outside_there, place_hart_begun, runs_settled, world_begun}
+use Rattle.explore_laws.specs.Places.{Place, place_begun}
+use Rattle.explore_space.specs.Begun.{begun_choices, first_steps, hart_begun, hart_settled, place_hart_begun, place_rested, runs_outside, runs_outside_there, runs_settled, world_begun}
+use Rattle.explore_space.specs.Habits.{Habits, stride_by_habit}
 use Rattle.explore_space.specs.Places.{hart_numbered, place_of_key, IsKeyOf}
 use Rattle.explore_space.specs.declared.shared.Shared.{Shared}
 use Rattle.explore_space.proofs.KeyLemmas.{hart_at}
@@ -20,46 +21,44 @@ use Rattle.explore_laws.specs.Settling.{world_settled}
 use Rattle.explore_space.proofs.RestLemmas.{rested_by, settled_is}
 use Rattle.explore_space.specs.Resting.{at_once, rest_steps, rested, resting_steps, stride_of}
 
-module _ {Z : Type 0} (section : Option Section) (image : ImageValue) (n : ℕ) (more_harts : List Hart) (shareds : List (Shared Z)) (p : Place) (number : ℕ)
-    (low : number < n) (next : List ℕ) (p_is : p.stride ≡ stride_of section) (is : IsKeyOf section image n more_harts shareds next (place_settled p number)) where
+module _ {Z : Type 0} (habits : Habits) (image : ImageValue) (n : ℕ) (more_harts : List Hart) (shareds : List (Shared Z)) (p : Place) (number : ℕ)
+    (low : number < n) (next : List ℕ) (is : IsKeyOf habits image n more_harts shareds next (place_rested habits.section p number)) where
   -- the hart runs outside behind its steps if the one under its new number does
-  runs_there : runs_settled section p.world number ≡ runs_outside section (hart_numbered more_harts (slice_index next number))
-  runs_there = ap (λ x. runs_outside_there section (slice_get (world_settled x p.world number).harts number)) (sym p_is)
-      ∙ ap (λ (x : Place). runs_outside_there section (slice_get x.world.harts number)) (sym is.1)
-      ∙ ap (runs_outside_there section) (hart_at image n more_harts shareds next is.0 number low)
+  runs_there : runs_settled habits.section p.world number ≡ runs_outside habits.section (hart_numbered more_harts (slice_index next number))
+  runs_there = ap (λ (x : Place). runs_outside_there habits.section (slice_get x.world.harts number)) (sym is.1)
+      ∙ ap (runs_outside_there habits.section) (hart_at image n more_harts shareds next is.0 number low)
 
-  begun_by : (b : Bool) → runs_settled section p.world number ≡ b
-      → place_hart_begun section p number ≡ record { stride = p.stride; world = cond b (world_settled p.stride p.world number) p.world; chosen = p.chosen }
-  begun_by b e =
-      ap (λ (x : Bool). place_of (cond x (world_settled (stride_of section) p.world number) p.world)) e
-      ∙ ap (λ x. place_of (cond b (world_settled x p.world number) p.world)) (sym p_is)
+  begun_by : (b : Bool) → runs_settled habits.section p.world number ≡ b
+      → place_hart_begun habits.section p number
+      ≡ record { stride = p.stride; world = cond b (hart_settled habits.section p.world number) p.world; chosen = p.chosen }
+  begun_by b e = ap (λ (x : Bool). place_of (cond x (hart_settled habits.section p.world number) p.world)) e
     where
       place_of : World → Place
       place_of x = record { stride = p.stride; world = x; chosen = p.chosen }
 
-  pub begun_here : runs_outside section (hart_numbered more_harts (slice_index next number)) ≡ true
-      → IsKeyOf section image n more_harts shareds next (place_hart_begun section p number)
+  pub begun_here : runs_outside habits.section (hart_numbered more_harts (slice_index next number)) ≡ true
+      → IsKeyOf habits image n more_harts shareds next (place_hart_begun habits.section p number)
   begun_here runs = (is.0, is.1 ∙ sym (begun_by true (runs_there ∙ runs)))
 
-  pub begun_not : (key : List ℕ) → IsKeyOf section image n more_harts shareds key p
-      → runs_outside section (hart_numbered more_harts (slice_index next number)) ≡ false
-      → IsKeyOf section image n more_harts shareds key (place_hart_begun section p number)
+  pub begun_not : (key : List ℕ) → IsKeyOf habits image n more_harts shareds key p
+      → runs_outside habits.section (hart_numbered more_harts (slice_index next number)) ≡ false
+      → IsKeyOf habits image n more_harts shareds key (place_hart_begun habits.section p number)
   begun_not key stays stopped = (stays.0, stays.1 ∙ sym (begun_by false (runs_there ∙ stopped)))
 
-pub begun_none : {Z : Type 0} (section : Option Section) (image : ImageValue) (n : ℕ) (harts : List Hart) (shareds : List (Shared Z)) (key : List ℕ) (w : World)
-    → IsKeyOf section image n harts shareds key (place_begun (stride_of section) w)
-    → IsKeyOf section image n harts shareds key (place_begun (stride_of section) (world_begun section w (λ h. true) 0))
+pub begun_none : {Z : Type 0} (habits : Habits) (image : ImageValue) (n : ℕ) (harts : List Hart) (shareds : List (Shared Z)) (key : List ℕ) (w : World)
+    → IsKeyOf habits image n harts shareds key (place_begun (stride_by_habit habits) w)
+    → IsKeyOf habits image n harts shareds key (place_begun (stride_by_habit habits) (world_begun habits.section w (λ h. true) 0))
 unfolding world_begun
-begun_none section image n harts shareds key w is = is
+begun_none habits image n harts shareds key w is = is
 
-pub begun_more : {Z : Type 0} (section : Option Section) (image : ImageValue) (n : ℕ) (harts more_harts : List Hart) (shareds : List (Shared Z)) (key next : List ℕ)
-    (w : World) (number : ℕ) → IsKeyOf section image n harts shareds key (place_begun (stride_of section) (world_begun section w (λ h. true) number))
-    → IsKeyOf section image n more_harts shareds next (place_hart_begun section (place_of_key section image n harts shareds key) number)
-    → IsKeyOf section image n more_harts shareds next (place_begun (stride_of section) (world_begun section w (λ h. true) (number + 1)))
+pub begun_more : {Z : Type 0} (habits : Habits) (image : ImageValue) (n : ℕ) (harts more_harts : List Hart) (shareds : List (Shared Z)) (key next : List ℕ)
+    (w : World) (number : ℕ) → IsKeyOf habits image n harts shareds key (place_begun (stride_by_habit habits) (world_begun habits.section w (λ h. true) number))
+    → IsKeyOf habits image n more_harts shareds next (place_hart_begun habits.section (place_of_key habits image n harts shareds key) number)
+    → IsKeyOf habits image n more_harts shareds next (place_begun (stride_by_habit habits) (world_begun habits.section w (λ h. true) (number + 1)))
 unfolding world_begun
-begun_more section image n harts more_harts shareds key next w number before is =
+begun_more habits image n harts more_harts shareds key next w number before is =
     let one : number + 1 ≡ suc number = omega arith in
-    rw one (is.0, is.1 ∙ ap (λ (p : Place). place_hart_begun section p number) before.1)
+    rw one (is.0, is.1 ∙ ap (λ (p : Place). place_hart_begun habits.section p number) before.1)
 
 -- a hart runs outside behind its steps if what these make of it does
 module _ (section : Option Section) (w : World) (h : ℕ) (v u : HartValue) (there : slice_get w.harts h ≡ Some v) (is : u ≡ rested section (code_in w.memory) at_once v) where

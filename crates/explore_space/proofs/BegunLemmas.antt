@@ -1,9 +1,8 @@
 -- Harts that have taken their first local steps.
-use Rattle.std.proofs.Common.{◌≡◌, ℕ, zero, suc, ◌+◌, ◌<◌, ◌≤◌, ◌==◌, Bool, true, false, ◌||◌, List, [], ◌∷◌, ◌++◌, length, cond, Option, refl, ap, sym, ◌∙◌, subst, inl, inr, ◌⊎◌, arith}
+use Rattle.std.proofs.Common.{◌≡◌, ℕ, zero, suc, ◌<◌, ◌≤◌, ◌==◌, Bool, true, false, ◌||◌, List, [], ◌∷◌, ◌++◌, length, cond, Option, refl, ap, sym, ◌∙◌, subst, inl, inr, ◌⊎◌, arith}
 use Rattle.std.proofs.lemmas.Bool.{cases_eq, ne_eqb}
 use Rattle.std.proofs.lemmas.List.{append-nil}
 use Rattle.std.specs.List.{slice_get}
-use Rattle.hart_step.specs.Hart.{HartValue}
 use Rattle.hart_local.specs.CodeMemory.{code_in}
 use Rattle.hart_local.proofs.RunLemmas.{code_in_run}
 use Rattle.hart_local.specs.LocalRuns.{plain_choices}
@@ -15,15 +14,16 @@ use Rattle.explore_laws.specs.Covering.{WorldCovers}
 use Rattle.explore_laws.specs.Places.{place_begun, place_reached}
 use Rattle.explore_laws.specs.Quiet.{AreAligned, AreQuiet}
 use Rattle.explore_laws.specs.Settling.{turns_choices}
-use Rattle.explore_laws.proofs.CountLemmas.{none_own, other_plain, own_joined, own_plain}
+use Rattle.explore_laws.proofs.CountLemmas.{other_plain, own_joined, own_plain}
 use Rattle.explore_laws.proofs.ListLemmas.{run_joined, run_nothing}
 use Rattle.explore_laws.proofs.PlaceLemmas.{chosen_reached}
 use Rattle.explore_laws.proofs.QuietLemmas.{aligned_run, others_run, quiet_joined}
 use Rattle.explore_laws.proofs.TurnLemmas.{chosen_in_turns, run_of_turns}
 use Rattle.explore_space.specs.Begun.{begun_choices, choices_from_start, first_steps, hart_begun, hart_settled, runs_settled, settled_start, world_begun}
-use Rattle.explore_space.specs.Resting.{is_quiet, stride_of}
+use Rattle.explore_space.specs.Habits.{Habits, quiet_by_habit, stride_by_habit}
+use Rattle.explore_space.specs.Resting.{stride_of}
 use Rattle.explore_space.specs.declared.section.Section.{Section}
-use Rattle.explore_space.proofs.RestLemmas.{section_waits}
+use Rattle.explore_space.proofs.HabitLemmas.{rest_quiet}
 
 module _ (section : Option Section) where
   -- ---- one hart
@@ -33,13 +33,6 @@ module _ (section : Option Section) where
       by_case : (b : Bool) → run w (plain_choices n (cond b (stride_of section w n) 0)) ≡ cond b (hart_settled section w n) w
       by_case true = refl
       by_case false = run_nothing w
-
-  pub first_quiet : (w : World) (n : ℕ) → AreAligned w → AreQuiet (is_quiet section) w (plain_choices n (first_steps section w n))
-  first_quiet w n aligned = by_case (runs_settled section w n)
-    where
-      by_case : (b : Bool) → AreQuiet (is_quiet section) w (plain_choices n (cond b (stride_of section w n) 0))
-      by_case true = (section_waits section).strides w n aligned
-      by_case false = tt
 
   -- another hart is as before
   pub begun_other : (w : World) (n h : ℕ) → (h ≡ n → ⊥) → slice_get (hart_begun section w n).harts h ≡ slice_get w.harts h
@@ -64,29 +57,6 @@ module _ (section : Option Section) where
   pub begun_aligned : (w : World) (asked : ℕ → Bool) (n : ℕ) → AreAligned w → AreAligned (world_begun section w asked n)
   begun_aligned w asked n aligned = subst AreAligned (run_of_begun w asked n) (aligned_run w (begun_choices section w asked n) aligned)
 
-  pub begun_quiet : (w : World) (asked : ℕ → Bool) (n : ℕ) → AreAligned w → AreQuiet (is_quiet section) w (begun_choices section w asked n)
-  unfolding begun_choices
-  begun_quiet w asked zero aligned = tt
-  begun_quiet w asked (suc n) aligned = by_case (asked n) (begun_quiet w asked n aligned)
-    where
-      at : World
-      at = world_begun section w asked n
-
-      by_case : (b : Bool) → AreQuiet (is_quiet section) w (begun_choices section w asked n)
-          → AreQuiet (is_quiet section) w (begun_choices section w asked n ++ cond b (plain_choices n (first_steps section at n)) [])
-      by_case true before = quiet_joined (is_quiet section) w (begun_choices section w asked n) (plain_choices n (first_steps section at n)) before
-          (subst (λ x. AreQuiet (is_quiet section) x (plain_choices n (first_steps section at n))) (sym (run_of_begun w asked n))
-          (first_quiet at n (begun_aligned w asked n aligned)))
-      by_case false before = subst (AreQuiet (is_quiet section) w) (sym (append-nil (begun_choices section w asked n))) before
-
-  -- the world where turns start covers the one before any choice
-  abbrev pub start_covers : (w : World) → AreAligned w → WorldCovers (is_quiet section) (settled_start section w) w
-  start_covers w aligned = record {
-    choices = begun_choices section w (λ k. true) (length w.harts);
-    are_quiet = begun_quiet w (λ k. true) (length w.harts) aligned;
-    leads = run_of_begun w (λ k. true) (length w.harts);
-  }
-
   pub begun_behind : (w : World) (asked : ℕ → Bool) (n h : ℕ) → n ≤ h
       → slice_get (world_begun section w asked n).harts h ≡ slice_get w.harts h
   unfolding world_begun
@@ -106,6 +76,38 @@ pub begun_code : (section : Option Section) (w : World) (asked : ℕ → Bool) (
     → code_in (world_begun section w asked n).memory ≡ code_in w.memory
 begun_code section w asked n =
     ap (λ (x : World). code_in x.memory) (sym (run_of_begun section w asked n)) ∙ code_in_run w (begun_choices section w asked n)
+
+-- ---- the first local steps are quiet
+module _ (habits : Habits) where
+  first_quiet : (w : World) (n : ℕ) → AreAligned w → AreQuiet (quiet_by_habit habits) w (plain_choices n (first_steps habits.section w n))
+  first_quiet w n aligned = by_case (runs_settled habits.section w n)
+    where
+      by_case : (b : Bool) → AreQuiet (quiet_by_habit habits) w (plain_choices n (cond b (stride_of habits.section w n) 0))
+      by_case true = rest_quiet habits w n aligned
+      by_case false = tt
+
+  pub begun_quiet : (w : World) (asked : ℕ → Bool) (n : ℕ) → AreAligned w → AreQuiet (quiet_by_habit habits) w (begun_choices habits.section w asked n)
+  unfolding begun_choices
+  begun_quiet w asked zero aligned = tt
+  begun_quiet w asked (suc n) aligned = by_case (asked n) (begun_quiet w asked n aligned)
+    where
+      at : World
+      at = world_begun habits.section w asked n
+
+      by_case : (b : Bool) → AreQuiet (quiet_by_habit habits) w (begun_choices habits.section w asked n)
+          → AreQuiet (quiet_by_habit habits) w (begun_choices habits.section w asked n ++ cond b (plain_choices n (first_steps habits.section at n)) [])
+      by_case true before = quiet_joined (quiet_by_habit habits) w (begun_choices habits.section w asked n) (plain_choices n (first_steps habits.section at n)) before
+          (subst (λ x. AreQuiet (quiet_by_habit habits) x (plain_choices n (first_steps habits.section at n))) (sym (run_of_begun habits.section w asked n))
+          (first_quiet at n (begun_aligned habits.section w asked n aligned)))
+      by_case false before = subst (AreQuiet (quiet_by_habit habits) w) (sym (append-nil (begun_choices habits.section w asked n))) before
+
+  -- the world where turns start covers the one before any choice
+  abbrev pub start_covers : (w : World) → AreAligned w → WorldCovers (quiet_by_habit habits) (settled_start habits.section w) w
+  start_covers w aligned = record {
+    choices = begun_choices habits.section w (λ k. true) (length w.harts);
+    are_quiet = begun_quiet w (λ k. true) (length w.harts) aligned;
+    leads = run_of_begun habits.section w (λ k. true) (length w.harts);
+  }
 
 -- ---- who is chosen
 or_joined : (a b c : Bool) → a || (b || c) ≡ (a || b) || c
@@ -150,26 +152,28 @@ begun_chosen section w asked (suc n) k e = by_case (asked n) refl (begun_chosen 
         ]
     by_case false is before e = before (ap (λ (cs : List Choice). is_chosen cs k) (sym (append-nil (begun_choices section w asked n))) ∙ e)
 
-pub start_chosen : (section : Option Section) (w : World) (turns : List Choice) (k : ℕ)
-    → is_chosen (choices_from_start section w turns) k ≡ is_chosen turns k
-start_chosen section w turns k =
+pub start_chosen : (habits : Habits) (w : World) (turns : List Choice) (k : ℕ)
+    → is_chosen (choices_from_start habits w turns) k ≡ is_chosen turns k
+start_chosen habits w turns k =
     let n = length w.harts in
-    let first = begun_choices section w (is_chosen turns) n in
-    let at = world_begun section w (is_chosen turns) n in
-    joined_chosen first (turns_choices (stride_of section) at turns) k
-    ∙ ap (λ t. is_chosen first k || t) (chosen_in_turns (stride_of section) at turns k ∙ chosen_reached (stride_of section) at turns k)
-    ∙ or_absorbs (is_chosen first k) (is_chosen turns k) (begun_chosen section w (is_chosen turns) n k)
+    let first = begun_choices habits.section w (is_chosen turns) n in
+    let at = world_begun habits.section w (is_chosen turns) n in
+    let stride = stride_by_habit habits in
+    joined_chosen first (turns_choices stride at turns) k
+    ∙ ap (λ t. is_chosen first k || t) (chosen_in_turns stride at turns k ∙ chosen_reached stride at turns k)
+    ∙ or_absorbs (is_chosen first k) (is_chosen turns k) (begun_chosen habits.section w (is_chosen turns) n k)
 
 -- ---- where the choices lead
-pub run_from_start : (section : Option Section) (w : World) (turns : List Choice)
-    → run w (choices_from_start section w turns)
-    ≡ (place_reached (place_begun (stride_of section) (world_begun section w (is_chosen turns) (length w.harts))) turns).world
-run_from_start section w turns =
+pub run_from_start : (habits : Habits) (w : World) (turns : List Choice)
+    → run w (choices_from_start habits w turns)
+    ≡ (place_reached (place_begun (stride_by_habit habits) (world_begun habits.section w (is_chosen turns) (length w.harts))) turns).world
+run_from_start habits w turns =
     let n = length w.harts in
-    let at = world_begun section w (is_chosen turns) n in
-    run_joined w (begun_choices section w (is_chosen turns) n) (turns_choices (stride_of section) at turns)
-    ∙ ap (λ (x : World). run x (turns_choices (stride_of section) at turns)) (run_of_begun section w (is_chosen turns) n)
-    ∙ run_of_turns (stride_of section) at turns
+    let at = world_begun habits.section w (is_chosen turns) n in
+    let stride = stride_by_habit habits in
+    run_joined w (begun_choices habits.section w (is_chosen turns) n) (turns_choices stride at turns)
+    ∙ ap (λ (x : World). run x (turns_choices stride at turns)) (run_of_begun habits.section w (is_chosen turns) n)
+    ∙ run_of_turns stride at turns
 
 -- ---- how often a hart is chosen
 pub own_past : (section : Option Section) (w : World) (n h : ℕ) → n ≤ h → own (begun_choices section w (λ k. true) n) h ≡ 0

@@ -15,7 +15,7 @@ use Rattle.explore_sites.specs.Cells.{words_shown}
 use Rattle.explore_space.specs.Places.{hart_in, hart_numbered, cells_in, marks_in, place_of_key, AreUnlike, HartsDiffer, IsKey}
 use Rattle.explore_space.specs.declared.shared.Shared.{Shared}
 use Rattle.explore_space.proofs.KeyLemmas.{id_at, hart_at}
-use Rattle.explore_space.specs.declared.section.Section.{Section}
+use Rattle.explore_space.specs.Habits.{Habits}
 
 -- numbers are equal where neither order can be
 same_number : (a b : ℕ) → (a < b → ⊥) → (b < a → ⊥) → a ≡ b
@@ -75,9 +75,9 @@ same_flag zero (suc (suc b)) a_low b_low same = absurd (omega (arith, b_low))
 same_flag (suc zero) (suc (suc b)) a_low b_low same = absurd (omega (arith, b_low))
 
 -- ---- keys
-module _ {Z : Type 0} (section : Option Section) (image : ImageValue) (n : ℕ) (harts : List Hart) (shareds : List (Shared Z)) where
+module _ {Z : Type 0} (habits : Habits) (image : ImageValue) (n : ℕ) (harts : List Hart) (shareds : List (Shared Z)) where
   abbrev place : List ℕ → Place
-  place = place_of_key section image n harts shareds
+  place = place_of_key habits image n harts shareds
 
   abbrev Key : List ℕ → Type 0
   Key = IsKey image n harts shareds

@@ -2,14 +2,14 @@
 use Rattle.std.proofs.Common.{◌≡◌, ℕ, zero, suc, ◌%◌, ◌<◌, ◌≤◌, Bool, true, false, ◌||◌, List, [], ◌∷◌, ◌++◌, length, Option, Some, None, refl, ap, sym, ◌∙◌, subst, arith, inl, inr}
 use Rattle.std.proofs.lemmas.Bool.{cases_lt, ne_eqb}
 use Rattle.std.proofs.lemmas.List.Elements.{All-head, All-tail, All-append, All-cons, Contains-append_cases, Contains-append_left, Contains-append_right}
-use Rattle.std.specs.List.{Contains, slice_get, slice_index_or}
-use Rattle.image.specs.Image.{ImageValue}
+use Rattle.std.specs.List.{Contains, slice_index_or}
+use Rattle.image.specs.Image.{ImageValue, IsSound}
 use Rattle.hart_step.specs.Hart.{HartValue}
 use Rattle.hart_local.specs.LocalRuns.{plain_choices}
 use Rattle.machine.specs.Chosen.{is_chosen, ChooseAlike}
 use Rattle.machine.specs.Start.{started}
 use Rattle.machine.proofs.RunLaws.{length-started, run-aligned}
-use Rattle.explore_laws.specs.Covering.{HasTurns}
+use Rattle.explore_laws.specs.Covering.{AreClear, HasTurns}
 use Rattle.explore_laws.specs.Quiet.{AreAligned}
 use Rattle.explore_laws.proofs.ListLemmas.{run_nothing}
 use Rattle.machine.specs.World.{World, step, run}
@@ -20,26 +20,31 @@ use Rattle.outcome.specs.Outcome.{outcome_of}
 use Rattle.outcome.specs.Expect.{fails, judged}
 use Rattle.outcome.specs.declared.expect.Exit.TheVariants.{May}
 use Rattle.explore_laws.proofs.PlaceLemmas.{chosen_reached}
-use Rattle.explore_laws.specs.Places.{place_begun, place_reached}
+use Rattle.explore_laws.specs.Places.{Place, place_begun, place_reached}
 use Rattle.explore_laws.specs.Safe.{IsSafe}
 use Rattle.explore_search.proofs.SearchLemmas.{below_or}
 use Rattle.explore_search.specs.Answers.{LeadsToBad}
 use Rattle.explore_search.specs.declared.searching.Found.{Found}
-use Rattle.explore_space.specs.Begun.{begun_choices, choices_from_start, settled_start, world_begun}
+use Rattle.explore_space.specs.Begun.{begun_choices, choices_from_start, settled_start, turns_start, world_begun}
 use Rattle.explore_space.specs.Every.{hart_choices, meant_choices, IsListOf, run_fails, FailsFirst}
-use Rattle.explore_space.specs.Failing.{breaks_asked, one_each, fails_there}
+use Rattle.explore_space.specs.Failing.{IsUnowned, breaks_asked, ends_search, fails_there, one_each, strays_from}
 use Rattle.explore_space.specs.declared.meant.ScRefusals.{ScRefusals}
 use Rattle.explore_space.specs.declared.meant.ScRefusals.TheVariants.{Also, Never}
 use Rattle.explore_space.specs.declared.question.Always.{Always}
 use Rattle.explore_space.proofs.MarkLemmas.{chosen_below, chosen_past}
 use Rattle.explore_space.proofs.PassLemmas.{covered_stops, passes}
 use Rattle.explore_space.proofs.WordBreaks.{ahead_breaks, covered_breaks, fails_neither, fails_not}
-use Rattle.explore_space.proofs.BegunLemmas.{start_chosen}
-use Rattle.explore_space.proofs.AheadLemmas.{all_run, fails_ahead, start_ahead}
+use Rattle.explore_space.proofs.BegunLemmas.{run_of_begun, start_chosen}
+use Rattle.explore_space.proofs.ClearLemmas.{ShutAbove, run_shut, started_shut}
+use Rattle.explore_laws.proofs.TurnLemmas.{run_of_turns}
+use Rattle.explore_space.proofs.AheadLemmas.{ClearTurns, all_run, clear_turns, fails_ahead, start_ahead}
+use Rattle.explore_space.proofs.AstrayLemmas.{clear_below, neither}
 use Rattle.explore_space.proofs.StartLemmas.{begun_meant, run_has_start}
 use Rattle.explore_space.specs.declared.section.Section.{Section}
+use Rattle.explore_space.specs.declared.settling.LocalCode.{LocalCode}
 use Rattle.explore_laws.specs.Settling.{Stride, turns_choices, world_settled}
-use Rattle.explore_space.specs.Resting.{is_quiet, stride_of}
+use Rattle.explore_space.specs.Habits.{Habits, clear_by_habit, habits_with, owners_in, quiet_by_habit, stride_by_habit}
+use Rattle.explore_space.specs.declared.own_words.OwnWord.{OwnWord}
 
 -- ---- the harts of meant choices
 of_hart : (refusals : ScRefusals) (n i : ℕ) (c : Choice) → i < length (hart_choices refusals n)
@@ -102,11 +107,11 @@ module _ (refusals : ScRefusals) (n : ℕ) where
 
 -- ---- verdicts
 -- a choice of each hart that turns choose, and the turns
-pub alike : (section : Option Section) (refusals : ScRefusals) (n : ℕ) (w : World) (turns : List Choice) → IsListOf (meant_choices refusals n) turns
-    → ChooseAlike (one_each n (place_reached (place_begun (stride_of section) w) turns).chosen) turns
-alike section refusals n w turns all k = elim (cases_lt k n) [
-  | inl low ↦ chosen_below n (place_reached (place_begun (stride_of section) w) turns).chosen k low ∙ chosen_reached (stride_of section) w turns k
-  | inr past ↦ chosen_past n (place_reached (place_begun (stride_of section) w) turns).chosen k past ∙ sym (none_past refusals n turns k past all)
+pub alike : (stride : Stride) (refusals : ScRefusals) (n : ℕ) (w : World) (turns : List Choice) → IsListOf (meant_choices refusals n) turns
+    → ChooseAlike (one_each n (place_reached (place_begun stride w) turns).chosen) turns
+alike stride refusals n w turns all k = elim (cases_lt k n) [
+  | inl low ↦ chosen_below n (place_reached (place_begun stride w) turns).chosen k low ∙ chosen_reached stride w turns k
+  | inr past ↦ chosen_past n (place_reached (place_begun stride w) turns).chosen k past ∙ sym (none_past refusals n turns k past all)
 ]
 
 pub same_judgement : (rule : Option Kind) (inputs : List ℕ) (a b : List Choice) (harts : List HartValue) → ChooseAlike a b
@@ -119,93 +124,151 @@ pub start_aligned : (image : ImageValue) (inputs : List ℕ) → image.entry % 4
 start_aligned image inputs entry =
     subst AreAligned (run_nothing (started image inputs)) (run-aligned image inputs [] entry)
 
--- where turns lead, their own run has failed exactly where the place has
-fails_alike : (rule : Option Kind) (always : Option Always) (section : Option Section) (refusals : ScRefusals) (image : ImageValue) (inputs : List ℕ) (turns : List Choice) → image.entry % 4 ≡ 0
-    → IsListOf (meant_choices refusals (length inputs)) turns
-    → fails_there rule always section inputs (place_reached (place_begun (stride_of section) (settled_start section (started image inputs))) turns)
-    ≡ run_fails rule always section image inputs (choices_from_start section (started image inputs) turns)
-fails_alike rule always section refusals image inputs turns entry all =
-    let w = started image inputs in
-    let p = place_reached (place_begun (stride_of section) (settled_start section w)) turns in
-    let list = choices_from_start section w turns in
-    let each = one_each (length inputs) p.chosen in
-    let ahead = start_ahead section w turns (start_aligned image inputs entry) (all_run image inputs) in
-    ap (λ (b : Bool). b || fails May (judged rule inputs each p.world.harts))
-    (ahead_breaks always section (is_chosen turns) p.world (run w list) ahead)
-    ∙ ap (λ (b : Bool). breaks_asked always section (run w list) || b)
-    (fails_ahead section rule inputs (is_chosen turns) p.world (run w list) each list ahead
-    (λ k. alike section refusals (length inputs) (settled_start section w) turns all k ∙ sym (start_chosen section w turns k)))
+-- ---- the choices of turns from the start are meant
+module _ (habits : Habits) (refusals : ScRefusals) (image : ImageValue) (inputs : List ℕ) (entry : image.entry % 4 ≡ 0) where
+  plains : (h : ℕ) → h < length (started image inputs).harts → Contains (meant_choices refusals (length inputs)) (record { hart = h; refuse = false })
+  plains h low = plain_meant refusals (length inputs) h (let c = length-started image inputs in omega (arith, c, low))
 
--- a run fails in no other way than the place that stands for it
-pub good_run : (rule : Option Kind) (always : Option Always) (section : Option Section) (refusals : ScRefusals) (image : ImageValue) (inputs : List ℕ) (choices : List Choice)
-    (found : HasTurns (is_quiet section) (meant_choices refusals (length inputs)) (place_begun (stride_of section) (settled_start section (started image inputs))) (started image inputs) choices)
-    → fails_there rule always section inputs (place_reached (place_begun (stride_of section) (settled_start section (started image inputs))) found.turns) ≡ false
-    → run_fails rule always section image inputs choices ≡ false
-good_run rule always section refusals image inputs choices found good =
-    let w = started image inputs in
-    let s = settled_start section w in
-    let p = place_reached (place_begun (stride_of section) s) found.turns in
-    let each = one_each (length inputs) p.chosen in
-    let both = fails_not (breaks_asked always section p.world) (fails May (judged rule inputs each p.world.harts)) good in
-    fails_neither (breaks_asked always section (run w choices)) (fails May (judged rule inputs choices (run w choices).harts))
-    (covered_breaks always section p.world (run w choices) found.place.covers both.0)
-    (passes rule inputs p.world.harts (run w choices).harts each choices
-    (covered_stops section p.world (run w choices) found.place.covers)
-    (λ k e. found.place.fewer k (chosen_reached (stride_of section) s found.turns k ∙ sym (alike section refusals (length inputs) s found.turns found.are_meant k) ∙ e)) both.1)
+  pub start_meant : (asked : ℕ → Bool) (turns : List Choice) → IsListOf (meant_choices refusals (length inputs)) turns
+      → IsListOf (meant_choices refusals (length inputs)) (begun_choices habits.section (started image inputs) asked (length (started image inputs).harts)
+      ++ turns_choices (stride_by_habit habits) (world_begun habits.section (started image inputs) asked (length (started image inputs).harts)) turns)
+  start_meant asked turns all =
+      let n = length (started image inputs).harts in
+      let at = world_begun habits.section (started image inputs) asked n in
+      All-append (Contains (meant_choices refusals (length inputs))) (begun_choices habits.section (started image inputs) asked n) (turns_choices (stride_by_habit habits) at turns)
+      (begun_meant habits (meant_choices refusals (length inputs)) (started image inputs) (start_aligned image inputs entry) plains asked n (omega arith))
+      (turns_meant refusals (length inputs) (stride_by_habit habits) at turns all)
 
--- the choices of turns from the start are meant
-pub plains : (refusals : ScRefusals) (image : ImageValue) (inputs : List ℕ) (h : ℕ) → h < length (started image inputs).harts
-    → Contains (meant_choices refusals (length inputs)) (record { hart = h; refuse = false })
-plains refusals image inputs h low =
-    plain_meant refusals (length inputs) h (let c = length-started image inputs in omega (arith, c, low))
+module _ (rule : Option Kind) (always : Option Always) (habits : Habits) (refusals : ScRefusals) (image : ImageValue) (inputs : List ℕ)
+    (entry : image.entry % 4 ≡ 0) (unowned : IsUnowned always habits.owners) where
+  abbrev meant : List Choice
+  meant = meant_choices refusals (length inputs)
 
-pub start_meant : (section : Option Section) (refusals : ScRefusals) (image : ImageValue) (inputs : List ℕ) (asked : ℕ → Bool) (turns : List Choice) → image.entry % 4 ≡ 0
-    → IsListOf (meant_choices refusals (length inputs)) turns
-    → IsListOf (meant_choices refusals (length inputs)) (begun_choices section (started image inputs) asked (length (started image inputs).harts)
-    ++ turns_choices (stride_of section) (world_begun section (started image inputs) asked (length (started image inputs).harts)) turns)
-start_meant section refusals image inputs asked turns entry all =
-    let w = started image inputs in
-    let n = length w.harts in
-    All-append (Contains (meant_choices refusals (length inputs))) (begun_choices section w asked n) (turns_choices (stride_of section) (world_begun section w asked n) turns)
-    (begun_meant section (meant_choices refusals (length inputs)) w (start_aligned image inputs entry) (plains refusals image inputs) asked n (omega arith))
-    (turns_meant refusals (length inputs) (stride_of section) (world_begun section w asked n) turns all)
+  abbrev start : World
+  start = started image inputs
 
--- ---- an answer for places is one for runs
-pub safe_is_safe : (rule : Option Kind) (always : Option Always) (section : Option Section) (refusals : ScRefusals) (image : ImageValue) (inputs : List ℕ) → image.entry % 4 ≡ 0
-    → IsSafe (meant_choices refusals (length inputs)) (place_begun (stride_of section) (settled_start section (started image inputs))) (fails_there rule always section inputs)
-    → (choices : List Choice) → IsListOf (meant_choices refusals (length inputs)) choices → run_fails rule always section image inputs choices ≡ false
-safe_is_safe rule always section refusals image inputs entry safe choices all =
-    let found = run_has_start section (meant_choices refusals (length inputs)) (started image inputs) choices (start_aligned image inputs entry) all in
-    good_run rule always section refusals image inputs choices found (safe found.turns found.are_meant)
+  abbrev reached : List Choice → Place
+  reached turns = place_reached (turns_start habits start) turns
 
-pub bad_is_bad : (rule : Option Kind) (always : Option Always) (section : Option Section) (refusals : ScRefusals) (image : ImageValue) (inputs : List ℕ) (turns choices : List Choice) (count : ℕ) → image.entry % 4 ≡ 0
-    → LeadsToBad (meant_choices refusals (length inputs)) (place_begun (stride_of section) (settled_start section (started image inputs))) (fails_there rule always section inputs) turns
-    → choices ≡ choices_from_start section (started image inputs) turns → length turns ≡ count
-    → FailsFirst section (meant_choices refusals (length inputs)) (started image inputs) (run_fails rule always section image inputs) choices count
-bad_is_bad rule always section refusals image inputs turns choices count entry bad is count_is =
-    let w = started image inputs in
-    record {
-      turns = turns;
-      count_is = count_is;
-      choices_are = is;
-      meant_ones = subst (IsListOf (meant_choices refusals (length inputs))) (sym is)
-          (start_meant section refusals image inputs (is_chosen turns) turns entry bad.meant);
-      meant_turns = bad.meant;
-      fails = ap (run_fails rule always section image inputs) is ∙ sym (fails_alike rule always section refusals image inputs turns entry bad.meant) ∙ bad.ends;
-      fewest = λ other all less.
-          sym (fails_alike rule always section refusals image inputs other entry all) ∙ bad.shortest other all (omega (arith, less, count_is));
-      shortest = λ other all less.
-          let found = run_has_start section (meant_choices refusals (length inputs)) w other (start_aligned image inputs entry) all in
-          good_run rule always section refusals image inputs other found
-          (bad.shortest found.turns found.are_meant (let few = found.no_more in omega (arith, few, less, count_is)));
-    }
+  aligned_after : (choices : List Choice) → AreAligned (run start choices)
+  aligned_after choices = run-aligned image inputs choices entry
+
+  -- where turns lead, their own run has failed exactly where the place has
+  fails_alike : (turns : List Choice) → IsListOf meant turns → ClearTurns habits (turns_start habits start) turns
+      → fails_there rule always habits.section inputs (reached turns)
+      ≡ run_fails rule always habits.section image inputs (choices_from_start habits start turns)
+  fails_alike turns all clear =
+      let p = reached turns in
+      let list = choices_from_start habits start turns in
+      let each = one_each (length inputs) p.chosen in
+      let ahead = start_ahead habits start turns (start_aligned image inputs entry) (all_run image inputs) clear in
+      ap (λ (b : Bool). b || fails May (judged rule inputs each p.world.harts))
+      (ahead_breaks habits always unowned (is_chosen turns) p.world (run start list) (aligned_after list) ahead)
+      ∙ ap (λ (b : Bool). breaks_asked always habits.section (run start list) || b)
+      (fails_ahead habits rule inputs (is_chosen turns) p.world (run start list) each list ahead
+      (λ k. alike (stride_by_habit habits) refusals (length inputs) (settled_start habits.section start) turns all k ∙ sym (start_chosen habits start turns k)))
+
+  -- a run fails in no other way than the place that stands for it
+  pub good_run : (choices : List Choice) (found : HasTurns (quiet_by_habit habits) meant (turns_start habits start) start choices)
+      → fails_there rule always habits.section inputs (reached found.turns) ≡ false
+      → run_fails rule always habits.section image inputs choices ≡ false
+  good_run choices found good =
+      let p = reached found.turns in
+      let each = one_each (length inputs) p.chosen in
+      let stride = stride_by_habit habits in
+      let s = settled_start habits.section start in
+      let w = run start choices in
+      let both = fails_not (breaks_asked always habits.section p.world) (fails May (judged rule inputs each p.world.harts)) good in
+      fails_neither (breaks_asked always habits.section w) (fails May (judged rule inputs choices w.harts))
+      (covered_breaks habits always unowned p.world w (aligned_after choices) found.place.covers both.0)
+      (passes rule inputs p.world.harts w.harts each choices (covered_stops habits p.world w found.place.covers)
+      (λ k e. found.place.fewer k (chosen_reached stride s found.turns k ∙ sym (alike stride refusals (length inputs) s found.turns found.are_meant k) ∙ e)) both.1)
+
+  -- ---- an answer for places is one for runs
+  pub safe_is_safe : IsSafe meant (turns_start habits start) (fails_there rule always habits.section inputs)
+      → ((n : ℕ) → AreClear (clear_by_habit habits) meant (turns_start habits start) n)
+      → (choices : List Choice) → IsListOf meant choices → run_fails rule always habits.section image inputs choices ≡ false
+  safe_is_safe safe clear choices all =
+      let found = run_has_start habits meant start choices (start_aligned image inputs entry) all (clear (length choices)) in
+      good_run choices found (safe found.turns found.are_meant)
+
+  pub bad_is_bad : (turns choices : List Choice) (count : ℕ) → IsListOf meant turns
+      → ((other : List Choice) → IsListOf meant other → length other < count → fails_there rule always habits.section inputs (reached other) ≡ false)
+      → AreClear (clear_by_habit habits) meant (turns_start habits start) count
+      → run_fails rule always habits.section image inputs choices ≡ true
+      → choices ≡ choices_from_start habits start turns → length turns ≡ count
+      → FailsFirst habits.section meant start (run_fails rule always habits.section image inputs) choices count
+  bad_is_bad turns choices count all good clear failed is count_is = record {
+    owners = habits.owners;
+    turns = turns;
+    count_is = count_is;
+    choices_are = is;
+    meant_ones = subst (IsListOf meant) (sym is) (start_meant habits refusals image inputs entry (is_chosen turns) turns all);
+    meant_turns = all;
+    fails = failed;
+    fewest = λ other others less.
+        sym (fails_alike other others (clear_turns habits meant (turns_start habits start) other count others (omega (arith, less)) clear))
+        ∙ good other others less;
+    shortest = λ other others less.
+        let found = run_has_start habits meant start other (start_aligned image inputs entry) others (λ ts c ms is_in low. clear ts c ms is_in (omega (arith, low, less))) in
+        good_run other found (good found.turns found.are_meant (let few = found.no_more in omega (arith, few, less)));
+  }
+
+-- ---- what a search with these words says
+module _ (rule : Option Kind) (always : Option Always) (section : Option Section) (words : List OwnWord) (refusals : ScRefusals) (image : ImageValue) (inputs : List ℕ)
+    (sound : IsSound image.entry image.segments) where
+  abbrev habits : Habits
+  habits = habits_with section (owners_in words)
+
+  abbrev turns_of : List Choice
+  turns_of = meant_choices refusals (length inputs)
+
+  abbrev first : Place
+  first = turns_start habits (started image inputs)
+
+  abbrev stops : Place → Bool
+  stops = ends_search rule always section words inputs
+
+  -- a place that turns lead to has the rights of the image
+  shut_there : (turns : List Choice) → ShutAbove (place_reached first turns).world.memory
+  shut_there turns =
+      let begun = begun_choices section (started image inputs) (λ h. true) (length (started image inputs).harts) in
+      let choices = turns_choices (stride_by_habit habits) first.world turns in
+      subst (λ (w : World). ShutAbove w.memory)
+      (ap (λ (w : World). run w choices) (run_of_begun section (started image inputs) (λ h. true) (length (started image inputs).harts))
+      ∙ run_of_turns (stride_by_habit habits) first.world turns)
+      (run_shut (run (started image inputs) begun) choices (run_shut (started image inputs) begun (started_shut image inputs sound)))
+
+  clear_there : (turns : List Choice) (c : Choice) → Contains turns_of c → stops (place_reached first turns) ≡ false
+      → clear_by_habit habits (place_reached first turns).world c.hart ≡ true
+  clear_there turns c there good =
+      let p = place_reached first turns in
+      clear_below words p.world (length inputs) c.hart (shut_there turns) (in_range refusals (length inputs) c there)
+      (neither (fails_there rule always section inputs p) (strays_from words p.world (length inputs)) good).1
+
+  pub safe_good : IsSafe turns_of first stops → IsSafe turns_of first (fails_there rule always section inputs)
+  safe_good safe turns all =
+      let p = place_reached first turns in
+      (neither (fails_there rule always section inputs p) (strays_from words p.world (length inputs)) (safe turns all)).0
+
+  pub safe_clear : IsSafe turns_of first stops → (n : ℕ) → AreClear (clear_by_habit habits) turns_of first n
+  safe_clear safe n turns c all there less = clear_there turns c there (safe turns all)
+
+  pub bad_good : (list : List Choice) → LeadsToBad turns_of first stops list → (other : List Choice) → IsListOf turns_of other
+      → length other < length list → fails_there rule always section inputs (place_reached first other) ≡ false
+  bad_good list bad other all less =
+      let p = place_reached first other in
+      (neither (fails_there rule always section inputs p) (strays_from words p.world (length inputs)) (bad.shortest other all less)).0
+
+  pub bad_clear : (list : List Choice) → LeadsToBad turns_of first stops list → AreClear (clear_by_habit habits) turns_of first (length list)
+  bad_clear list bad turns c all there less = clear_there turns c there (bad.shortest turns all less)
 
 -- the same by equal parts
-pub moved : {Z : Type 0} (P : List Choice → ImageValue → List ℕ → Option Kind → Option Always → Option Section → Found Z → Type 0)
-    {m1 m2 : List Choice} {i1 i2 : ImageValue} {n1 n2 : List ℕ} {r1 r2 : Option Kind} {a1 a2 : Option Always} {s1 s2 : Option Section}
-    {f1 f2 : Found Z} → m1 ≡ m2 → i1 ≡ i2 → n1 ≡ n2 → r1 ≡ r2 → a1 ≡ a2 → s1 ≡ s2 → f1 ≡ f2 → P m1 i1 n1 r1 a1 s1 f1
-    → P m2 i2 n2 r2 a2 s2 f2
-moved P {m1} {m2} {i1} {i2} {n1} {n2} {r1} {r2} {a1} {a2} {s1} {s2} {f1} {f2} m i n r a s f p =
-    subst (P m2 i2 n2 r2 a2 s2) f (subst (λ x. P m2 i2 n2 r2 a2 x f1) s (subst (λ x. P m2 i2 n2 r2 x s1 f1) a
-    (subst (λ x. P m2 i2 n2 x a1 s1 f1) r (subst (λ x. P m2 i2 x r1 a1 s1 f1) n (subst (λ x. P m2 x n1 r1 a1 s1 f1) i
-    (subst (λ x. P x i1 n1 r1 a1 s1 f1) m p))))))
+pub moved : {Z : Type 0} (P : List Choice → ImageValue → List ℕ → Option Kind → Option Always → LocalCode Z → Found Z → Type 0)
+    {m1 m2 : List Choice} {i1 i2 : ImageValue} {n1 n2 : List ℕ} {r1 r2 : Option Kind} {a1 a2 : Option Always} {k1 k2 : LocalCode Z}
+    {f1 f2 : Found Z} → m1 ≡ m2 → i1 ≡ i2 → n1 ≡ n2 → r1 ≡ r2 → a1 ≡ a2 → k1 ≡ k2 → f1 ≡ f2 → P m1 i1 n1 r1 a1 k1 f1
+    → P m2 i2 n2 r2 a2 k2 f2
+moved P {m1} {m2} {i1} {i2} {n1} {n2} {r1} {r2} {a1} {a2} {k1} {k2} {f1} {f2} m i n r a k f p =
+    subst (P m2 i2 n2 r2 a2 k2) f (subst (λ x. P m2 i2 n2 r2 a2 x f1) k (subst (λ x. P m2 i2 n2 r2 x k1 f1) a
+    (subst (λ x. P m2 i2 n2 x a1 k1 f1) r (subst (λ x. P m2 i2 x r1 a1 k1 f1) n (subst (λ x. P m2 x n1 r1 a1 k1 f1) i
+    (subst (λ x. P x i1 n1 r1 a1 k1 f1) m p))))))

@@ -1,5 +1,5 @@
 -- The first key.
-use Rattle.std.proofs.Common.{◌≡◌, ℕ, zero, suc, ◌+◌, ◌*◌, ◌%◌, ◌<◌, Bool, false, ◌==◌, List, [], ◌∷◌, length, map, take, Some, None, refl, ap, sym, ◌∙◌, subst, arith, Option}
+use Rattle.std.proofs.Common.{◌≡◌, ℕ, zero, suc, ◌+◌, ◌*◌, ◌%◌, ◌<◌, Bool, false, ◌==◌, List, [], ◌∷◌, length, map, take, Some, None, refl, ap, sym, ◌∙◌, subst, arith}
 use Rattle.std.proofs.lemmas.List.{length-map, length-take-le, same_lists}
 use Rattle.std.proofs.lemmas.Option.{same_Some, slice_get_within, slice_get-map, get_or_from_slice_get}
 use Rattle.std.specs.List.{All, slice_get, slice_index}
@@ -23,8 +23,7 @@ use Rattle.explore_space.specs.Places.{hart_in, hart_numbered, cells_in, marks_i
 use Rattle.explore_space.specs.declared.shared.Shared.{Shared}
 use Rattle.explore_space.proofs.WorldLemmas.{memory_is}
 use Rattle.explore_space.proofs.KeyLemmas.{taken_at}
-use Rattle.explore_space.specs.declared.section.Section.{Section}
-use Rattle.explore_space.specs.Resting.{stride_of}
+use Rattle.explore_space.specs.Habits.{Habits, stride_by_habit}
 
 -- ---- the harts at the start
 -- register 10 of each hart is its number
@@ -121,14 +120,14 @@ module _ {Z : Type 0} (image : ImageValue) (inputs : List ℕ) (begin : List Har
       moved : (n k : ℕ) → n + 1 + k ≡ n + (1 + k)
       moved n k = omega arith
 
-  first_place : (section : Option Section)
-      → place_of_key section image (length inputs) begin shareds row ≡ place_begun (stride_of section) (started image inputs)
-  first_place section =
+  first_place : (habits : Habits)
+      → place_of_key habits image (length inputs) begin shareds row ≡ place_begun (stride_by_habit habits) (started image inputs)
+  first_place habits =
       let chosen : (λ (k : ℕ). slice_index row (length inputs + 1 + k) == 1) ≡ (λ (k : ℕ). false) = λ i k. ap (λ v. v == 1) (flag_none k) i in
       ap (λ (x : World). place_of x (λ k. slice_index row (length inputs + 1 + k) == 1)) first_world ∙ ap (place_of (started image inputs)) chosen
     where
       place_of : World → (ℕ → Bool) → Place
-      place_of x y = record { stride = stride_of section; world = x; chosen = y }
+      place_of x y = record { stride = stride_by_habit habits; world = x; chosen = y }
 
   first_key : IsKey image (length inputs) begin shareds row
   unfolding run values_over
@@ -149,6 +148,6 @@ module _ {Z : Type 0} (image : ImageValue) (inputs : List ℕ) (begin : List Har
     aligned = subst (All IsAligned) (sym all_harts) (run-aligned image inputs [] entry);
   }
 
-  pub first_is_key : (section : Option Section)
-      → IsKeyOf section image (length inputs) begin shareds row (place_begun (stride_of section) (started image inputs))
-  first_is_key section = (first_key, first_place section)
+  pub first_is_key : (habits : Habits)
+      → IsKeyOf habits image (length inputs) begin shareds row (place_begun (stride_by_habit habits) (started image inputs))
+  first_is_key habits = (first_key, first_place habits)

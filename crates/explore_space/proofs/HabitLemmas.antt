@@ -1,5 +1,5 @@
 -- Local steps and steps on a hart's own words can wait.
-use Rattle.std.proofs.Common.{◌≡◌, ℕ, zero, suc, ◌+◌, Bool, true, false, not, ◌&&◌, cond, List, [], ◌∷◌, ◌++◌, Option, Some, None, refl, ap, sym, ◌∙◌, subst, inl, inr, arith, true≢false}
+use Rattle.std.proofs.Common.{◌≡◌, ℕ, zero, suc, ◌+◌, true, false, not, ◌&&◌, cond, List, [], ◌∷◌, ◌++◌, Option, Some, None, refl, ap, sym, ◌∙◌, subst, inl, inr, arith, true≢false}
 use Rattle.std.proofs.lemmas.Bool.{and_from, and_parts, cases_Bool}
 use Rattle.std.specs.List.{slice_get}
 use Rattle.hart_step.specs.Hart.{HartValue}
@@ -15,20 +15,20 @@ use Rattle.explore_sites.proofs.OrderLemmas.{alone_commutes}
 use Rattle.explore_sites.proofs.StayLemmas.{alone_kept}
 use Rattle.explore_laws.specs.Bounds.{not_stopped, still_runs, runs_in}
 use Rattle.explore_laws.specs.Quiet.{AreAligned, AreQuiet, CanWait}
-use Rattle.explore_laws.proofs.ListLemmas.{run_joined}
+use Rattle.explore_laws.specs.Settling.{Stride}
 use Rattle.explore_laws.proofs.QuietLemmas.{aligned_run, quiet_joined, step_aligned}
 use Rattle.explore_laws.proofs.StopLemmas.{other_step}
-use Rattle.explore_sites.specs.Own.{Owners, alone_by, alone_in, clear_in, is_alone, unrefused}
+use Rattle.explore_sites.specs.Own.{alone_by, alone_in, clear_in, is_alone, unrefused}
 use Rattle.explore_space.specs.Habits.{Habits, clear_by_habit, nobodys, local_stride, own_at_once, own_stride, quiet_by_habit, stride_by_habit, takes_own_by, takes_own_step, takes_quiet_by, takes_quiet_step, world_rested}
-use Rattle.explore_space.specs.Resting.{is_quiet, may_walk, resting_steps, rests_in}
+use Rattle.explore_space.specs.Resting.{is_quiet, rests_in}
 use Rattle.explore_space.proofs.AloneLemmas.{local_alone}
 use Rattle.explore_space.proofs.RestLemmas.{quiet_hart, section_waits, stride_stays}
 
-step_keeps : (w : World) (c : Choice) → Keeps w.memory (step w c).memory
+pub step_keeps : (w : World) (c : Choice) → Keeps w.memory (step w c).memory
 unfolding run
 step_keeps w c = run-keeps w (c ∷ [])
 
-plain_joined : (h m n : ℕ) → plain_choices h (m + n) ≡ plain_choices h m ++ plain_choices h n
+pub plain_joined : (h m n : ℕ) → plain_choices h (m + n) ≡ plain_choices h m ++ plain_choices h n
 plain_joined h zero n = let none : zero + n ≡ n = omega arith in ap (plain_choices h) none
 plain_joined h (suc m) n =
     let one : suc m + n ≡ suc (m + n) = omega arith in
@@ -49,7 +49,7 @@ module _ (habits : Habits) where
       let goes = and_parts (not_stopped v.state) (not (rests_in habits.section v)) both.0 in
       record { hart = v; is = refl; goes = goes.0; alone = both.1 }
 
-  quiet_alone : (w : World) (h : ℕ) → quiet_by_habit habits w h ≡ true → alone_in habits.owners w h ≡ true
+  pub quiet_alone : (w : World) (h : ℕ) → quiet_by_habit habits w h ≡ true → alone_in habits.owners w h ≡ true
   quiet_alone w h e =
       let of = parts w h (slice_get w.harts h) e in
       ap (alone_by habits.owners w h) of.is ∙ of.alone
@@ -57,7 +57,7 @@ module _ (habits : Habits) where
   quiet_runs : (w : World) (h : ℕ) → quiet_by_habit habits w h ≡ true → runs_in w h ≡ true
   quiet_runs w h e = let of = parts w h (slice_get w.harts h) e in ap still_runs of.is ∙ of.goes
 
-  as_plain : (w : World) (c : Choice) → quiet_by_habit habits w c.hart ≡ true → step w c ≡ step w (unrefused c.hart)
+  pub as_plain : (w : World) (c : Choice) → quiet_by_habit habits w c.hart ≡ true → step w c ≡ step w (unrefused c.hart)
   as_plain w c e = never_refused habits.owners w c.hart (quiet_alone w c.hart e) c.refuse
 
   quiet_alike : (w : World) (c d : Choice) → quiet_by_habit habits w c.hart ≡ true → d.hart ≡ c.hart → step w d ≡ step w c
@@ -104,7 +104,7 @@ module _ (habits : Habits) where
       ∙ sym (as_plain (step w c) d (quiet_stays w d.hart c other ∙ e))
 
   -- ---- local steps are quiet
-  local_quiet : (w : World) (h : ℕ) → is_quiet habits.section w h ≡ true → quiet_by_habit habits w h ≡ true
+  pub local_quiet : (w : World) (h : ℕ) → is_quiet habits.section w h ≡ true → quiet_by_habit habits w h ≡ true
   local_quiet w h e =
       let of = quiet_hart habits.section w (slice_get w.harts h) e in
       let v = of.0 in
@@ -119,7 +119,7 @@ module _ (habits : Habits) where
   all_quiet w [] are = tt
   all_quiet w (c ∷ choices) are = (local_quiet w c.hart are.0, all_quiet (step w c) choices are.1)
 
-  rest_quiet : (w : World) (h : ℕ) → AreAligned w → AreQuiet (quiet_by_habit habits) w (plain_choices h (local_stride habits w h))
+  pub rest_quiet : (w : World) (h : ℕ) → AreAligned w → AreQuiet (quiet_by_habit habits) w (plain_choices h (local_stride habits w h))
   rest_quiet w h aligned = all_quiet w (plain_choices h (local_stride habits w h)) ((section_waits habits.section).strides w h aligned)
 
   -- ---- strides
@@ -216,14 +216,26 @@ module _ (habits : Habits) where
       ∙ ap (λ k. local_stride habits w h + k)
       (own_paces own_at_once u c h (aligned_run w (plain_choices h (local_stride habits w h)) aligned) other of.1)
 
-  pub habits_wait : CanWait (quiet_by_habit habits) (clear_by_habit habits) (stride_by_habit habits)
-  habits_wait = record {
+  -- ---- what lets quiet steps wait, whatever strides of them are taken
+  waits_with : (stride : Stride)
+      → ((w : World) (h : ℕ) → AreAligned w → AreQuiet (quiet_by_habit habits) w (plain_choices h (stride w h)))
+      → ((w : World) (c : Choice) (h : ℕ) → AreAligned w → (h ≡ c.hart → ⊥) → quiet_by_habit habits w c.hart ≡ true
+      → stride (step w c) h ≡ stride w h)
+      → CanWait (quiet_by_habit habits) (clear_by_habit habits) stride
+  waits_with stride strides paces = record {
     runs = quiet_runs;
     alike = quiet_alike;
     stays = λ w h c aligned other e. quiet_stays w h c other ∙ e;
     is_clear = λ w h aligned e. clear_alone habits.owners w h (quiet_alone w h e);
     was_clear = was_clear;
     swaps = quiet_swaps;
-    strides = habit_strides;
-    paces = habit_paces;
+    strides = strides;
+    paces = paces;
   }
+
+  pub habits_wait : CanWait (quiet_by_habit habits) (clear_by_habit habits) (stride_by_habit habits)
+  habits_wait = waits_with (stride_by_habit habits) habit_strides habit_paces
+
+  -- so they do where local steps alone are taken at once
+  pub rests_wait : CanWait (quiet_by_habit habits) (clear_by_habit habits) (local_stride habits)
+  rests_wait = waits_with (local_stride habits) rest_quiet (λ w c h aligned other e. rest_paces w c h other)

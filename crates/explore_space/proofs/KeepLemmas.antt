@@ -1,8 +1,8 @@
 -- What is kept where a key is added, and an answer under it.
-use Rattle.std.proofs.Common.{◌≡◌, ℕ, ◌<◌, ◌≤◌, List, [], ◌∷◌, ◌++◌, length, Some, refl, ap, sym, ◌∙◌, subst, arith, inl, inr, ◌⊎◌}
+use Rattle.std.proofs.Common.{◌≡◌, ℕ, ◌<◌, ◌≤◌, List, [], ◌∷◌, ◌++◌, length, Some, ap, sym, ◌∙◌, arith, inl, inr, ◌⊎◌}
 use Rattle.std.proofs.lemmas.Option.{slice_get_within, same_Some}
 use Rattle.std.specs.List.{Contains, slice_get}
-use Rattle.explore_space.specs.Memo.{HasAnswer, KeepsOne}
+use Rattle.explore_space.specs.Memo.{KeepsOne}
 use Rattle.explore_table.proofs.ListLemmas.{get_either}
 
 -- a key is there under a number, or is added under it

@@ -1,5 +1,5 @@
 -- Keys after a step, and keys as tables grow.
-use Rattle.std.proofs.Common.{◌≡◌, ℕ, zero, suc, ◌+◌, ◌%◌, ◌<◌, ◌≤◌, Bool, ◌||◌, ◌==◌, List, [], ◌∷◌, length, map, take, set, Option, Some, refl, ap, sym, ◌∙◌, subst, arith, inl, inr, ◌⊎◌, None}
+use Rattle.std.proofs.Common.{◌≡◌, ℕ, zero, suc, ◌+◌, ◌%◌, ◌<◌, ◌≤◌, Bool, ◌||◌, ◌==◌, List, [], ◌∷◌, length, map, take, set, Option, Some, refl, ap, sym, ◌∙◌, subst, arith, inl, inr, ◌⊎◌}
 use Rattle.std.proofs.lemmas.Bool.{cases_eq}
 use Rattle.std.proofs.lemmas.List.{length-set, length-append, get_or-set_same, get_or-set_other}
 use Rattle.std.proofs.lemmas.Option.{slice_get_within, get_or_from_slice_get, slice_get-map}
@@ -29,8 +29,7 @@ use Rattle.explore_search.specs.Searched.{GoesOn}
 use Rattle.explore_space.specs.Places.{hart_in, hart_numbered, cells_in, marks_in, memory_over, world_of_key, place_of_key, PartsStep, IsKey, IsKeyOf, KeptOnce, KeysStay}
 use Rattle.explore_space.specs.declared.shared.Shared.{Shared}
 use Rattle.explore_space.proofs.WorldLemmas.{get_within, map_same, taken, memory_after, world_after, marked, unmarked, chosen_after}
-use Rattle.explore_space.specs.Resting.{stride_of}
-use Rattle.explore_space.specs.declared.section.Section.{Section}
+use Rattle.explore_space.specs.Habits.{Habits, stride_by_habit}
 
 pub longer_length : {X : Type 0} (xs ys : List X) → GoesOn xs ys → length xs ≤ length ys
 longer_length xs ys goes = let e = ap length goes.1 ∙ length-append xs goes.0 in omega (arith, e)
@@ -53,12 +52,12 @@ module _ {Z : Type 0} (image : ImageValue) (n : ℕ) (harts more_harts : List Ha
   abbrev world_by : List HartValue → Option (Shared Z) → World
   world_by hs o = record { harts = hs; memory = memory_over (image_memory image) (words_shown image (cells_in o)); reserved = marks_in o }
 
-  abbrev place_by : Option Section → World → Place
-  place_by section w = record { stride = stride_of section; world = w; chosen = λ k. slice_index key (n + 1 + k) == 1 }
+  abbrev place_by : Habits → World → Place
+  place_by habits w = record { stride = stride_by_habit habits; world = w; chosen = λ k. slice_index key (n + 1 + k) == 1 }
 
-  pub place_stays : (section : Option Section) → place_of_key section image n more_harts more_shareds key ≡ place_of_key section image n harts shareds key
-  place_stays section = ap (λ hs. place_by section (world_by hs (slice_get more_shareds (slice_index key n)))) all_same
-      ∙ ap (λ o. place_by section (world_by (map (hart_numbered harts) (take n key)) o)) shared_same
+  pub place_stays : (habits : Habits) → place_of_key habits image n more_harts more_shareds key ≡ place_of_key habits image n harts shareds key
+  place_stays habits = ap (λ hs. place_by habits (world_by hs (slice_get more_shareds (slice_index key n)))) all_same
+      ∙ ap (λ o. place_by habits (world_by (map (hart_numbered harts) (take n key)) o)) shared_same
 
   pub key_stays : KeptOnce image more_harts more_shareds → IsKey image n more_harts more_shareds key
   key_stays once = record {
@@ -74,7 +73,7 @@ module _ {Z : Type 0} (image : ImageValue) (n : ℕ) (harts more_harts : List Ha
   }
 
 -- ---- one step
-keeps_then : (a b c : Memory) → Keeps a b → Keeps b c → Keeps a c
+pub keeps_then : (a b c : Memory) → Keeps a b → Keeps b c → Keeps a c
 keeps_then a b c f g = record {
   rights = g.rights ∙ f.rights;
   bytes = λ x shut. g.bytes x (ap (λ (r : ℕ → Option ℕ). grants to_write (r x)) f.rights ∙ shut) ∙ f.bytes x shut;
@@ -173,15 +172,15 @@ module _ {Z : Type 0} (image : ImageValue) (n : ℕ) (harts more_harts : List Ha
       world_of : Option (Shared Z) → World
       world_of o = record { harts = map g (take n next); memory = memory_over m (words_shown image (cells_in o)); reserved = marks_in o }
 
-  next_place : (section : Option Section)
-      → place_of_key section image n more_harts more_shareds next ≡ place_stepped (place_of_key section image n harts shareds key) c
-  next_place section =
+  next_place : (habits : Habits)
+      → place_of_key habits image n more_harts more_shareds next ≡ place_stepped (place_of_key habits image n harts shareds key) c
+  next_place habits =
       let chosen : (λ (k : ℕ). slice_index next (n + 1 + k) == 1) ≡ (λ (k : ℕ). (number == k) || (slice_index key (n + 1 + k) == 1))
       = λ i k. chosen_after m n number id shared_id (slice_index key number) key next f g values new_values r new_r refuse low is.len next_is there same k i in
       ap (λ (x : World). place_of x (λ k. slice_index next (n + 1 + k) == 1)) next_world ∙ ap (place_of (step w c)) chosen
     where
       place_of : World → (ℕ → Bool) → Place
-      place_of x y = record { stride = stride_of section; world = x; chosen = y }
+      place_of x y = record { stride = stride_by_habit habits; world = x; chosen = y }
 
   flags_then : (k : ℕ) → slice_index next (n + 1 + k) ≤ 1
   flags_then k = elim (cases_eq number k) [
@@ -217,9 +216,9 @@ module _ {Z : Type 0} (image : ImageValue) (n : ℕ) (harts more_harts : List Ha
       taken_is : take n next ≡ set (take n key) number id
       taken_is = taken m n number id shared_id (slice_index key number) key next f g values new_values r new_r refuse low is.len next_is there same
 
-  pub next_is_key : KeptOnce image more_harts more_shareds → (section : Option Section)
-      → IsKeyOf section image n more_harts more_shareds next (place_stepped (place_of_key section image n harts shareds key) c)
-  next_is_key once section = (next_key once, next_place section)
+  pub next_is_key : KeptOnce image more_harts more_shareds → (habits : Habits)
+      → IsKeyOf habits image n more_harts more_shareds next (place_stepped (place_of_key habits image n harts shareds key) c)
+  next_is_key once habits = (next_key once, next_place habits)
 
 -- the same step by equal parts
 pub steps_moved : (T : StepTable HartValue) (k : ℕ) (refuse : Bool) (h a new_h b : HartValue) (values d new_values e : ℕ → WordBytes)
@@ -231,24 +230,24 @@ steps_moved T k refuse h a new_h b values d new_values e r q new_r p steps a_is 
 -- keys and places stay
 pub kept : {Z : Type 0} (image : ImageValue) (n : ℕ) (harts more_harts : List Hart) (shareds more_shareds : List (Shared Z))
     → GoesOn harts more_harts → GoesOn shareds more_shareds → (KeptOnce image harts shareds → KeptOnce image more_harts more_shareds)
-    → (section : Option Section) → KeysStay section image n harts shareds more_harts more_shareds
-kept image n harts more_harts shareds more_shareds harts_go shareds_go once section key is = (
+    → (habits : Habits) → KeysStay habits image n harts shareds more_harts more_shareds
+kept image n harts more_harts shareds more_shareds harts_go shareds_go once habits key is = (
   key_stays image n harts more_harts shareds more_shareds harts_go shareds_go key is (once is.once),
-  place_stays image n harts more_harts shareds more_shareds harts_go shareds_go key is section,
+  place_stays image n harts more_harts shareds more_shareds harts_go shareds_go key is habits,
 )
 
-pub kept_on : {Z : Type 0} (section : Option Section) (image : ImageValue) (n : ℕ) (harts more_harts all_harts : List Hart) (shareds more_shareds : List (Shared Z))
-    → KeysStay section image n harts shareds more_harts more_shareds → KeysStay section image n more_harts more_shareds all_harts more_shareds
-    → KeysStay section image n harts shareds all_harts more_shareds
-kept_on section image n harts more_harts all_harts shareds more_shareds first second key is =
+pub kept_on : {Z : Type 0} (habits : Habits) (image : ImageValue) (n : ℕ) (harts more_harts all_harts : List Hart) (shareds more_shareds all_shareds : List (Shared Z))
+    → KeysStay habits image n harts shareds more_harts more_shareds → KeysStay habits image n more_harts more_shareds all_harts all_shareds
+    → KeysStay habits image n harts shareds all_harts all_shareds
+kept_on habits image n harts more_harts all_harts shareds more_shareds all_shareds first second key is =
     let a = first key is in
     let b = second key a.0 in (b.0, b.1 ∙ a.1)
 
--- a turn is a step and the local steps behind it
-pub turned : {Z : Type 0} (section : Option Section) (image : ImageValue) (n : ℕ) (harts more_harts all_harts : List Hart) (shareds more_shareds : List (Shared Z))
+-- a turn is a step and those that are taken at once behind it
+pub turned : {Z : Type 0} (habits : Habits) (image : ImageValue) (n : ℕ) (harts more_harts all_harts : List Hart) (shareds more_shareds all_shareds : List (Shared Z))
     (key next last : List ℕ) (c : Choice)
-    → IsKeyOf section image n more_harts more_shareds next (place_stepped (place_of_key section image n harts shareds key) c)
-    → IsKeyOf section image n all_harts more_shareds last (place_settled (place_of_key section image n more_harts more_shareds next) c.hart)
-    → IsKeyOf section image n all_harts more_shareds last (place_after (place_of_key section image n harts shareds key) c)
-turned section image n harts more_harts all_harts shareds more_shareds key next last c stepped_is settled =
+    → IsKeyOf habits image n more_harts more_shareds next (place_stepped (place_of_key habits image n harts shareds key) c)
+    → IsKeyOf habits image n all_harts all_shareds last (place_settled (place_of_key habits image n more_harts more_shareds next) c.hart)
+    → IsKeyOf habits image n all_harts all_shareds last (place_after (place_of_key habits image n harts shareds key) c)
+turned habits image n harts more_harts all_harts shareds more_shareds all_shareds key next last c stepped_is settled =
     (settled.0, settled.1 ∙ ap (λ p. place_settled p c.hart) stepped_is.1)

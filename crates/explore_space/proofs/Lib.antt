@@ -1,11 +1,17 @@
 pub mod RestLemmas
 pub mod AloneLemmas
+pub mod AstrayLemmas
+pub mod ClearLemmas
+pub mod LeaveLemmas
 pub mod HabitLemmas
+pub mod TouchLemmas
+pub mod WayLemmas
 pub mod PastLemmas
 pub mod StandLemmas
 pub mod WorldLemmas
 pub mod KeyLemmas
 pub mod SettledKeys
+pub mod WayKeys
 pub mod SettlingLemmas
 pub mod KeepLemmas
 pub mod MemoLemmas

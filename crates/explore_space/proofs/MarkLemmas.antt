@@ -1,6 +1,7 @@
 -- Harts that are marked as chosen, and a choice of each of them.
-use Rattle.std.proofs.Common.{◌≡◌, ◌≢◌, ℕ, zero, suc, ◌+◌, ◌<◌, ◌≤◌, ltb, eqb, cond, Bool, true, false, ◌&&◌, List, ◌∷◌, refl, sym, subst, ◌∙◌, arith, eq-eqb, inl, inr, ◌⊎◌}
-use Rattle.std.proofs.lemmas.Bool.{cases_lt, ne_eqb, lt-ltb, le-ltb}
+use Rattle.std.proofs.Common.{◌≡◌, ◌≢◌, ℕ, zero, suc, ◌+◌, ◌<◌, ◌≤◌, ltb, eqb, cond, Bool, true, false, ◌&&◌, ◌||◌, List, [], ◌∷◌, ◌++◌, refl, ap, sym, subst, ◌∙◌, arith, eq-eqb, inl, inr, ◌⊎◌}
+use Rattle.std.proofs.lemmas.Bool.{cases_eq, cases_lt, ne_eqb, lt-ltb, le-ltb}
+use Rattle.sched_run.proofs.ChosenLemmas.{any-append, or-none}
 use Rattle.machine.specs.Chosen.{is_chosen}
 use Rattle.machine.specs.declared.choice.Choice.{Choice}
 use Rattle.explore_search.proofs.SearchLemmas.{below_or}
@@ -61,3 +62,19 @@ mark_none f i j is = elim (cases_lt j i) [
     | inr above ↦ rw (le-ltb j i past) (rw (le-ltb j (i + 1) (omega (arith, above))) refl)
   ]
 ]
+
+-- ---- the harts of one choice more
+pub chosen_more : (f : ℕ → Bool) (choices : List Choice) (c : Choice) (k : ℕ) → f k ≡ is_chosen choices k
+    → cond (eqb k c.hart) true (f k) ≡ is_chosen (choices ++ c ∷ []) k
+chosen_more f choices c k is = elim (cases_eq k c.hart) [
+  | inl same ↦
+      ap (λ b. cond b true (f k)) (eq-eqb k c.hart same)
+      ∙ sym (any-append choices (c ∷ []) k ∙ ap (λ b. is_chosen choices k || (b || false)) (eq-eqb c.hart k (sym same)) ∙ or_true (is_chosen choices k))
+  | inr other ↦
+      ap (λ b. cond b true (f k)) (ne_eqb k c.hart other) ∙ is
+      ∙ sym (any-append choices (c ∷ []) k ∙ ap (λ b. is_chosen choices k || (b || false)) (ne_eqb c.hart k (λ e. other (sym e))) ∙ or-none (is_chosen choices k))
+]
+  where
+    or_true : (x : Bool) → x || true ≡ true
+    or_true true = refl
+    or_true false = refl

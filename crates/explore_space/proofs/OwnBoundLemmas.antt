@@ -1,14 +1,14 @@
 -- Rows of steps, and bounds of harts, as they grow.
-use Rattle.std.proofs.Common.{◌≡◌, ℕ, ◌+◌, ◌<◌, ◌≤◌, List, [], ◌∷◌, ◌++◌, length, Some, refl, ap, sym, ◌∙◌, subst, arith, inl, inr, None}
-use Rattle.std.proofs.lemmas.List.{length-append}
+use Rattle.std.proofs.Common.{◌≡◌, ℕ, ◌+◌, ◌<◌, List, [], ◌∷◌, ◌++◌, length, Some, ap, sym, ◌∙◌, subst, arith, inl, inr}
 use Rattle.std.proofs.lemmas.List.Elements.{All-contains}
 use Rattle.std.proofs.lemmas.Option.{slice_get_within, get_or_from_slice_get}
-use Rattle.std.specs.List.{Contains, slice_get}
+use Rattle.std.specs.List.{All, Contains, slice_get}
 use Rattle.machine.specs.World.{World}
 use Rattle.machine.specs.declared.choice.Choice.{Choice}
 use Rattle.explore_table.proofs.ListLemmas.{get_either, get_there}
+use Rattle.explore_laws.specs.Covering.{AreClear}
 use Rattle.explore_laws.specs.Places.{Place}
-use Rattle.explore_laws.specs.OwnSteps.{steps_in_turn, HasPlainChoices}
+use Rattle.explore_laws.specs.OwnSteps.{steps_in_turn, KeysAreClear}
 use Rattle.explore_search.specs.Answers.{AreAllReached}
 use Rattle.explore_search.specs.Counted.{IsLedTo}
 use Rattle.explore_search.specs.Edges.{HaveEdges}
@@ -23,7 +23,7 @@ use Rattle.explore_space.specs.Every.{meant_choices}
 use Rattle.explore_space.specs.declared.meant.ScRefusals.{ScRefusals}
 use Rattle.explore_space.specs.declared.own_bounds.OwnBounds.{OwnBounds}
 use Rattle.explore_space.proofs.EveryLemmas.{in_range, plain_meant}
-use Rattle.explore_space.specs.Resting.{stride_of}
+use Rattle.explore_space.specs.Habits.{Habits, clear_by_habit}
 
 same_at : {X : Type 0} (xs : List X) (k : ℕ) (x y : X) → slice_get xs k ≡ Some x → slice_get xs k ≡ Some y → x ≡ y
 same_at xs k x y e f = cc
@@ -87,6 +87,15 @@ module _ (IsKey : List ℕ → Type 0) (place : List ℕ → Place) (first : Pla
       let first_in = slice_get_within keys 0 seen.reached.first.0 seen.reached.first.1 in
       let count = have.count in
       omega (arith, first_in, count)
+
+-- where each step is clear wherever turns lead, so it is at the keys of these places
+pub keys_clear : (habits : Habits) (meant : List Choice) (first : Place) (place : List ℕ → Place) (keys : List (List ℕ))
+    → ((n : ℕ) → AreClear (clear_by_habit habits) meant first n) → All (λ key. IsLedTo meant first (place key)) keys
+    → KeysAreClear (clear_by_habit habits) meant place keys
+keys_clear habits meant first place keys clear led k key c at there =
+    let of = All-contains (λ x. IsLedTo meant first (place x)) keys key led (contains_at keys k key at) in
+    ap (λ (p : Place). clear_by_habit habits p.world c.hart) (sym of.leads)
+    ∙ clear (length of.list + 1) of.list c of.meant there (omega arith)
 
 -- rows of edges and of steps have a number for each turn
 pub wide_edges : (place : List ℕ → Place) (turns : List Choice) (keys rows : List (List ℕ)) → HaveEdges place turns keys rows

@@ -26,9 +26,8 @@ use Rattle.explore_laws.specs.Bounds.{not_stopped, runs_in, still_runs}
 use Rattle.explore_laws.specs.Covering.{WorldCovers}
 use Rattle.explore_laws.specs.Quiet.{AreQuiet}
 use Rattle.explore_laws.proofs.StopLemmas.{other_step}
-use Rattle.explore_space.specs.Resting.{is_quiet}
-use Rattle.explore_space.specs.declared.section.Section.{Section}
-use Rattle.explore_space.proofs.RestLemmas.{section_waits}
+use Rattle.explore_space.specs.Habits.{Habits, quiet_by_habit}
+use Rattle.explore_space.proofs.HabitLemmas.{habits_wait}
 
 -- ---- harts that are chosen
 at_place : (c : Choice) (choices : List Choice) (k i : ℕ) → i < length (chosen (c ∷ choices)) → get_or (chosen (c ∷ choices)) i k ≡ k
@@ -59,18 +58,18 @@ faulted_stopped (Exited status) e = refl
 faulted_stopped (Faulted cause) e = refl
 
 -- quiet steps are of harts that run
-stopped_stays : (section : Option Section) (w : World) (choices : List Choice) (h : ℕ) → AreQuiet (is_quiet section) w choices
+stopped_stays : (habits : Habits) (w : World) (choices : List Choice) (h : ℕ) → AreQuiet (quiet_by_habit habits) w choices
     → runs_in w h ≡ false → slice_get (run w choices).harts h ≡ slice_get w.harts h
 unfolding run
-stopped_stays section w [] h are stopped = refl
-stopped_stays section w (c ∷ choices) h are stopped =
+stopped_stays habits w [] h are stopped = refl
+stopped_stays habits w (c ∷ choices) h are stopped =
     let other : h ≡ c.hart → ⊥
-    = λ e. true≢false (sym ((section_waits section).runs w c.hart are.0) ∙ ap (runs_in w) (sym e) ∙ stopped) in
+    = λ e. true≢false (sym ((habits_wait habits).runs w c.hart are.0) ∙ ap (runs_in w) (sym e) ∙ stopped) in
     let same = other_step w c h other in
-    stopped_stays section (step w c) choices h are.1 (ap still_runs same ∙ stopped) ∙ same
+    stopped_stays habits (step w c) choices h are.1 (ap still_runs same ∙ stopped) ∙ same
 
 -- ---- the harts of a world that another covers
-module _ (section : Option Section) (s w : World) (covers : WorldCovers (is_quiet section) s w) where
+module _ (habits : Habits) (s w : World) (covers : WorldCovers (quiet_by_habit habits) s w) where
   pub covers_count : length s.harts ≡ length w.harts
   covers_count = ap (λ (x : World). length x.harts) (sym covers.leads) ∙ run_length w covers.choices
 
@@ -80,7 +79,7 @@ module _ (section : Option Section) (s w : World) (covers : WorldCovers (is_quie
       let there : slice_get w.harts i ≡ Some (get_or w.harts i d) = slice_get-get_or w.harts i d low in
       let same : slice_get s.harts i ≡ slice_get w.harts i
       = ap (λ (x : World). slice_get x.harts i) (sym covers.leads)
-      ∙ stopped_stays section w covers.choices i covers.are_quiet (ap still_runs there ∙ stopped) in
+      ∙ stopped_stays habits w covers.choices i covers.are_quiet (ap still_runs there ∙ stopped) in
       sym (get_or_from_slice_get s.harts i (get_or w.harts i d) d (same ∙ there))
 
 -- each hart that has stopped is the same among others
@@ -90,11 +89,11 @@ pub record StopsAlike (others harts : List HartValue) : Type 0 where
   pub faulted : (i : ℕ) (d : HartValue) → i < length harts → is_faulted (get_or harts i d).state ≡ true
       → get_or harts i d ≡ get_or others i d
 
-pub covered_stops : (section : Option Section) (s w : World) → WorldCovers (is_quiet section) s w → StopsAlike s.harts w.harts
-covered_stops section s w covers = record {
-  count = covers_count section s w covers;
-  exited = λ i d low e. same_stopped section s w covers i d low (exited_stopped (get_or w.harts i d).state e);
-  faulted = λ i d low e. same_stopped section s w covers i d low (faulted_stopped (get_or w.harts i d).state e);
+pub covered_stops : (habits : Habits) (s w : World) → WorldCovers (quiet_by_habit habits) s w → StopsAlike s.harts w.harts
+covered_stops habits s w covers = record {
+  count = covers_count habits s w covers;
+  exited = λ i d low e. same_stopped habits s w covers i d low (exited_stopped (get_or w.harts i d).state e);
+  faulted = λ i d low e. same_stopped habits s w covers i d low (faulted_stopped (get_or w.harts i d).state e);
 }
 
 module _ (others harts : List HartValue) (alike : StopsAlike others harts) where

@@ -1,5 +1,5 @@
 -- A hart's quiet steps, and those of others, in either order.
-use Rattle.std.proofs.Common.{◌≡◌, ℕ, ◌+◌, true, List, [], ◌∷◌, refl, ap, sym, ◌∙◌, subst, inl, inr, arith}
+use Rattle.std.proofs.Common.{◌≡◌, ℕ, true, List, [], ◌∷◌, refl, ap, sym, ◌∙◌, inl, inr, arith}
 use Rattle.std.proofs.lemmas.Bool.{cases_eq}
 use Rattle.machine.specs.Chosen.{own}
 use Rattle.machine.specs.World.{World, step, run}
@@ -7,7 +7,7 @@ use Rattle.machine.specs.declared.choice.Choice.{Choice}
 use Rattle.explore_laws.specs.Quiet.{AreAligned, AreQuiet, CanWait, OfNextStep}
 use Rattle.explore_laws.specs.Settling.{Stride}
 use Rattle.explore_laws.proofs.CountLemmas.{none_own, one_own}
-use Rattle.explore_laws.proofs.QuietLemmas.{IsAmong, IsBehind, aligned_run, by_quiet, step_aligned}
+use Rattle.explore_laws.proofs.QuietLemmas.{IsBehind, aligned_run, by_quiet, step_aligned}
 
 -- quiet steps of others are quiet behind some steps too, and lead to the same world before them
 pub record ArePast (quiet : OfNextStep) (w : World) (others choices : List Choice) : Type 0 where

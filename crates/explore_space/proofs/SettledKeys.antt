@@ -15,22 +15,22 @@ use Rattle.machine.specs.World.{World, run}
 use Rattle.machine.specs.declared.choice.Choice.{Choice}
 use Rattle.machine.proofs.RunLaws.{all-run}
 use Rattle.bank_laws.specs.Words.{bytes_at}
-use Rattle.explore_laws.specs.Places.{Place, place_settled}
+use Rattle.explore_laws.specs.Places.{Place}
 use Rattle.explore_search.specs.Searched.{GoesOn}
 use Rattle.explore_sites.specs.Cells.{words_shown}
 use Rattle.explore_space.specs.Places.{hart_numbered, cells_in, marks_in, memory_over, world_of_key, place_of_key, IsKey, IsKeyOf, KeptOnce}
 use Rattle.explore_space.specs.declared.shared.Shared.{Shared}
 use Rattle.explore_space.proofs.WorldLemmas.{take-set}
 use Rattle.explore_space.proofs.KeyLemmas.{hart_at, get_set, all_same, longer_length}
-use Rattle.explore_space.specs.declared.section.Section.{Section}
-use Rattle.explore_laws.specs.Settling.{world_settled}
+use Rattle.explore_space.specs.Begun.{hart_settled, place_rested}
+use Rattle.explore_space.specs.Habits.{Habits, stride_by_habit}
 use Rattle.explore_space.proofs.RestLemmas.{rested_by, settled_is}
-use Rattle.explore_space.specs.Resting.{at_once, rested, resting_steps, stride_of}
+use Rattle.explore_space.specs.Resting.{at_once, rested, stride_of}
 
-module _ {Z : Type 0} (section : Option Section) (image : ImageValue) (n : ℕ) (harts more_harts : List Hart) (shareds : List (Shared Z)) (harts_go : GoesOn harts more_harts)
+module _ {Z : Type 0} (habits : Habits) (image : ImageValue) (n : ℕ) (harts more_harts : List Hart) (shareds : List (Shared Z)) (harts_go : GoesOn harts more_harts)
     (shareds_go : GoesOn shareds shareds) (key next : List ℕ) (is : IsKey image n harts shareds key) (number id : ℕ) (low : number < n)
     (id_there : id < length more_harts) (next_is : next ≡ set key number id)
-    (rests : hart_numbered more_harts id ≡ rested section (code_in (image_memory image)) at_once (hart_numbered harts (slice_index key number))) where
+    (rests : hart_numbered more_harts id ≡ rested habits.section (code_in (image_memory image)) at_once (hart_numbered harts (slice_index key number))) where
   abbrev f : ℕ → HartValue
   f = hart_numbered harts
 
@@ -49,33 +49,33 @@ module _ {Z : Type 0} (section : Option Section) (image : ImageValue) (n : ℕ) 
   taken_is : take n next ≡ set (take n key) number id
   taken_is = ap (take n) next_is ∙ take-set n key number id
 
-  harts_are : map g (take n next) ≡ set w.harts number (rested section (code_in w.memory) at_once (f (slice_index key number)))
+  harts_are : map g (take n next) ≡ set w.harts number (rested habits.section (code_in w.memory) at_once (f (slice_index key number)))
   harts_are = ap (map g) taken_is ∙ map-set g (take n key) number id
       ∙ ap (λ (hs : List HartValue). set hs number (g id)) (all_same image n harts more_harts shareds shareds harts_go shareds_go key is)
-      ∙ ap (set w.harts number) (rests ∙ ap (λ m. rested section m at_once (f (slice_index key number))) (sym code_is))
+      ∙ ap (set w.harts number) (rests ∙ ap (λ m. rested habits.section m at_once (f (slice_index key number))) (sym code_is))
 
   at_other : (k : ℕ) → n ≤ k → slice_index next k ≡ slice_index key k
   at_other k past = ap (λ (xs : List ℕ). slice_index xs k) next_is ∙ get_or-set_other key number k id 0 (λ e. omega (arith, e, low, past))
 
-  world_is : world_of_key image n more_harts shareds next ≡ world_settled (stride_of section) w number
+  world_is : world_of_key image n more_harts shareds next ≡ hart_settled habits.section w number
   world_is = ap (λ i. world_of (map g (take n next)) (slice_get shareds i)) (at_other n (omega arith))
       ∙ ap (λ (hs : List HartValue). world_of hs (slice_get shareds (slice_index key n))) harts_are
-      ∙ ap (rested_by section w number) (sym hart_there) ∙ sym (settled_is section w number)
+      ∙ ap (rested_by habits.section w number) (sym hart_there) ∙ sym (settled_is habits.section w number)
     where
       world_of : List HartValue → Option (Shared Z) → World
       world_of hs o = record { harts = hs; memory = memory_over (image_memory image) (words_shown image (cells_in o)); reserved = marks_in o }
 
-  settled_place_is : place_of_key section image n more_harts shareds next ≡ place_settled (place_of_key section image n harts shareds key) number
+  settled_place_is : place_of_key habits image n more_harts shareds next ≡ place_rested habits.section (place_of_key habits image n harts shareds key) number
   settled_place_is =
       let chosen : (λ (k : ℕ). slice_index next (n + 1 + k) == 1) ≡ (λ (k : ℕ). slice_index key (n + 1 + k) == 1)
       = λ i k. ap (λ v. v == 1) (at_other (n + 1 + k) (omega arith)) i in
-      ap (λ (x : World). place_of x (λ k. slice_index next (n + 1 + k) == 1)) world_is ∙ ap (place_of (world_settled (stride_of section) w number)) chosen
+      ap (λ (x : World). place_of x (λ k. slice_index next (n + 1 + k) == 1)) world_is ∙ ap (place_of (hart_settled habits.section w number)) chosen
     where
       place_of : World → (ℕ → Bool) → Place
-      place_of x y = record { stride = stride_of section; world = x; chosen = y }
+      place_of x y = record { stride = stride_by_habit habits; world = x; chosen = y }
 
   abbrev locals : List Choice
-  locals = plain_choices number (stride_of section w number)
+  locals = plain_choices number (stride_of habits.section w number)
 
   run_is : world_of_key image n more_harts shareds next ≡ run w locals
   run_is = world_is
@@ -99,5 +99,5 @@ module _ {Z : Type 0} (section : Option Section) (image : ImageValue) (n : ℕ) 
   }
 
   pub settled_is_key_of : KeptOnce image more_harts shareds
-      → IsKeyOf section image n more_harts shareds next (place_settled (place_of_key section image n harts shareds key) number)
+      → IsKeyOf habits image n more_harts shareds next (place_rested habits.section (place_of_key habits image n harts shareds key) number)
   settled_is_key_of once = (settled_is_key once, settled_place_is)

@@ -1,9 +1,8 @@
 -- Local steps that are taken one by one.
-use Rattle.std.proofs.Common.{◌≡◌, ℕ, zero, suc, ◌+◌, ◌-◌, ◌<◌, ◌≤◌, Bool, true, false, not, ◌&&◌, cond, Option, refl, ap, sym, ◌∙◌, subst, arith}
+use Rattle.std.proofs.Common.{◌≡◌, ℕ, suc, ◌+◌, ◌-◌, ◌<◌, ◌≤◌, Bool, true, false, cond, Option, refl, ap, sym, ◌∙◌, arith}
 use Rattle.mem_store.specs.Memory.{Memory}
 use Rattle.hart_step.specs.Hart.{HartValue}
 use Rattle.hart_local.specs.LocalStep.{step_alone}
-use Rattle.hart_local.specs.declared.stepping.Class.{Class}
 use Rattle.hart_local.specs.declared.stepping.Class.TheVariants.{Local, Shared}
 use Rattle.explore_space.specs.declared.section.Section.{Section}
 use Rattle.explore_space.proofs.RestLemmas.{rested_here, rested_more}

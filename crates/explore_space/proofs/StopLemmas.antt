@@ -18,10 +18,9 @@ use Rattle.explore_laws.specs.Bounds.{not_stopped, still_runs}
 use Rattle.explore_laws.specs.Covering.{WorldCovers}
 use Rattle.explore_laws.specs.Quiet.{AreQuiet}
 use Rattle.explore_laws.proofs.ListLemmas.{run_nothing}
-use Rattle.explore_space.specs.Resting.{is_quiet}
-use Rattle.explore_space.specs.declared.section.Section.{Section}
+use Rattle.explore_space.specs.Habits.{Habits, quiet_by_habit}
 use Rattle.explore_space.proofs.PassLemmas.{not_broken}
-use Rattle.explore_space.proofs.RestLemmas.{section_waits}
+use Rattle.explore_space.proofs.HabitLemmas.{habits_wait}
 
 none_at : (n : ℕ) → ltb 0 n ≡ false → n ≡ 0
 none_at zero e = refl
@@ -37,14 +36,14 @@ none_runs (v ∷ hs) none zero = one v.state (omega (arith, none))
     one (Faulted cause) e = refl
 none_runs (v ∷ hs) none (suc h) = none_runs hs (omega (arith, none)) h
 
-pub same_harts : (section : Option Section) (s w : World) → WorldCovers (is_quiet section) s w → some_run w.harts ≡ false
+pub same_harts : (habits : Habits) (s w : World) → WorldCovers (quiet_by_habit habits) s w → some_run w.harts ≡ false
     → s.harts ≡ w.harts
-same_harts section s w covers stopped = by_choices covers.choices covers.are_quiet covers.leads
+same_harts habits s w covers stopped = by_choices covers.choices covers.are_quiet covers.leads
   where
-    by_choices : (choices : List Choice) → AreQuiet (is_quiet section) w choices → run w choices ≡ s → s.harts ≡ w.harts
+    by_choices : (choices : List Choice) → AreQuiet (quiet_by_habit habits) w choices → run w choices ≡ s → s.harts ≡ w.harts
     by_choices [] are leads = ap (λ (x : World). x.harts) (sym leads ∙ run_nothing w)
     by_choices (c ∷ choices) are leads =
-        absurd (true≢false (sym ((section_waits section).runs w c.hart are.0)
+        absurd (true≢false (sym ((habits_wait habits).runs w c.hart are.0)
         ∙ none_runs w.harts (none_at (counted end.Running w.harts) stopped) c.hart))
 
 -- runs that haven't failed have the same outcome where they left the same harts

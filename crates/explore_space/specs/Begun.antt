@@ -6,8 +6,9 @@ use Rattle.machine.specs.Chosen.{is_chosen}
 use Rattle.machine.specs.World.{World}
 use Rattle.machine.specs.declared.choice.Choice.{Choice}
 use Rattle.explore_laws.specs.Bounds.{not_stopped}
-use Rattle.explore_laws.specs.Places.{Place}
+use Rattle.explore_laws.specs.Places.{Place, place_begun}
 use Rattle.explore_laws.specs.Settling.{world_settled, turns_choices}
+use Rattle.explore_space.specs.Habits.{Habits, stride_by_habit}
 use Rattle.explore_space.specs.Resting.{rests_in, stride_of}
 use Rattle.explore_space.specs.declared.section.Section.{Section}
 
@@ -19,7 +20,7 @@ abbrev pub runs_outside_there : Option Section → Option HartValue → Bool
 runs_outside_there section None = false
 runs_outside_there section (Some v) = runs_outside section v
 
--- the world where hart h has taken the steps that it takes at once
+-- the world where hart h has taken its local steps
 abbrev pub hart_settled : Option Section → World → ℕ → World
 hart_settled section w h = world_settled (stride_of section) w h
 
@@ -27,6 +28,10 @@ hart_settled section w h = world_settled (stride_of section) w h
 -- comes there takes them in its first turn
 abbrev pub runs_settled : Option Section → World → ℕ → Bool
 runs_settled section w h = runs_outside_there section (slice_get (hart_settled section w h).harts h)
+
+-- the place where it has taken them
+abbrev pub place_rested : Option Section → Place → ℕ → Place
+place_rested section p h = record { stride = p.stride; world = hart_settled section p.world h; chosen = p.chosen }
 
 -- hart h has taken them if it still runs behind them, outside of the section
 abbrev pub hart_begun : Option Section → World → ℕ → World
@@ -56,8 +61,12 @@ begun_choices section w asked (suc n) = begun_choices section w asked n
 abbrev pub settled_start : Option Section → World → World
 settled_start section w = world_begun section w (λ h. true) (length w.harts)
 
--- the choices of turns from there: first those steps of the harts that they choose, and none of the
--- others
-abbrev pub choices_from_start : Option Section → World → List Choice → List Choice
-choices_from_start section w turns = begun_choices section w (is_chosen turns) (length w.harts)
-    ++ turns_choices (stride_of section) (world_begun section w (is_chosen turns) (length w.harts)) turns
+-- the place where turns start
+abbrev pub turns_start : Habits → World → Place
+turns_start habits w = place_begun (stride_by_habit habits) (settled_start habits.section w)
+
+-- the choices of turns from there: first those local steps of the harts that they choose, and none
+-- of the others
+abbrev pub choices_from_start : Habits → World → List Choice → List Choice
+choices_from_start habits w turns = begun_choices habits.section w (is_chosen turns) (length w.harts)
+    ++ turns_choices (stride_by_habit habits) (world_begun habits.section w (is_chosen turns) (length w.harts)) turns

@@ -10,11 +10,11 @@ use Rattle.outcome.specs.Expect.{fails, judged}
 use Rattle.outcome.specs.Outcome.{some_run}
 use Rattle.outcome.specs.declared.expect.Exit.{Exit}
 use Rattle.outcome.specs.declared.expect.Exit.TheVariants.{May, Must}
-use Rattle.explore_laws.specs.Places.{place_begun}
-use Rattle.explore_space.specs.Resting.{stride_of}
 use Rattle.explore_space.specs.declared.section.Section.{Section}
+use Rattle.explore_sites.specs.Own.{Owners}
 use Rattle.explore_search.specs.Counted.{HasPlaces, HasMorePlaces}
-use Rattle.explore_space.specs.Begun.{choices_from_start, settled_start}
+use Rattle.explore_space.specs.Begun.{choices_from_start, turns_start}
+use Rattle.explore_space.specs.Habits.{habits_with}
 use Rattle.explore_space.specs.Ends.{EndValue, end_with, ends_in}
 use Rattle.explore_space.specs.Failing.{breaks_asked}
 use Rattle.explore_space.specs.declared.exploring.Answer.{Answer}
@@ -45,17 +45,18 @@ run_fails rule always section image inputs choices =
     breaks_asked always section (run (started image inputs) choices)
     || fails May (judged rule inputs choices (run (started image inputs) choices).harts)
 
--- a list of these choices fails: it is the choices of so many turns, and neither fewer turns nor
--- fewer choices do
+-- a list of these choices fails: for some owners of words it is the choices of so many turns, and
+-- neither fewer turns nor fewer choices do
 pub record FailsFirst (section : Option Section) (meant : List Choice) (first : World) (is_failing : List Choice → Bool)
     (choices : List Choice) (count : ℕ) : Type 0 where
+  pub owners : Owners
   pub turns : List Choice
   pub meant_turns : IsListOf meant turns
   pub count_is : length turns ≡ count
-  pub choices_are : choices ≡ choices_from_start section first turns
+  pub choices_are : choices ≡ choices_from_start (habits_with section owners) first turns
   pub meant_ones : IsListOf meant choices
   pub fails : is_failing choices ≡ true
-  pub fewest : (other : List Choice) → IsListOf meant other → length other < count → is_failing (choices_from_start section first other) ≡ false
+  pub fewest : (other : List Choice) → IsListOf meant other → length other < count → is_failing (choices_from_start (habits_with section owners) first other) ≡ false
   pub shortest : (other : List Choice) → IsListOf meant other → length other < count → is_failing other ≡ false
 
 -- an answer holds of every schedule: no list of the harts' choices fails, or this one does; where
@@ -72,15 +73,15 @@ HoldsOfEvery rule always section refusals image inputs (Hangs hanging) =
     → run_fails rule always section image inputs choices ≡ false
 HoldsOfEvery rule always section refusals image inputs Undecided = Unit {0}
 
--- an answer counts places: turns lead to so many where nothing fails, and to more than `most` where
--- it is undecided
+-- an answer counts places: for some owners of words, turns lead to so many where nothing fails, and
+-- to more than `most` where it is undecided
 abbrev pub CountsPlaces : {Z : Type 0} → Option Section → ScRefusals → ImageValue → List ℕ → ℕ → Answer Z → Type 0
 CountsPlaces section refusals image inputs most (Holds held) =
-    HasPlaces (meant_choices refusals (length inputs)) (place_begun (stride_of section) (settled_start section (started image inputs))) held.places
+    (owners : Owners) × HasPlaces (meant_choices refusals (length inputs)) (turns_start (habits_with section owners) (started image inputs)) held.places
 CountsPlaces section refusals image inputs most (Fails failing) = Unit {0}
 CountsPlaces section refusals image inputs most (Hangs hanging) = Unit {0}
 CountsPlaces section refusals image inputs most Undecided =
-    HasMorePlaces (meant_choices refusals (length inputs)) (place_begun (stride_of section) (settled_start section (started image inputs))) most
+    (owners : Owners) × HasMorePlaces (meant_choices refusals (length inputs)) (turns_start (habits_with section owners) (started image inputs)) most
 
 -- no hart runs after a list of choices from a program's start
 abbrev pub StopsAll : ImageValue → List ℕ → List Choice → Type 0
@@ -119,18 +120,19 @@ pub record HasExit (meant : List Choice) (w : World) : Type 0 where
   pub meant_ones : IsListOf meant choices
   pub stops : some_run (run w choices).harts ≡ false
 
--- a list of these choices leads to a world that has no way out; it is the choices of so many turns,
--- and the worlds of fewer turns, and those of fewer choices, have one
+-- a list of these choices leads to a world that has no way out; for some owners of words it is the
+-- choices of so many turns, and the worlds of fewer turns, and those of fewer choices, have one
 pub record HangsFirst (section : Option Section) (meant : List Choice) (first : World) (choices : List Choice) (count : ℕ)
     : Type 0 where
+  pub owners : Owners
   pub turns : List Choice
   pub meant_turns : IsListOf meant turns
   pub count_is : length turns ≡ count
-  pub choices_are : choices ≡ choices_from_start section first turns
+  pub choices_are : choices ≡ choices_from_start (habits_with section owners) first turns
   pub meant_ones : IsListOf meant choices
   pub hangs : HasExit meant (run first choices) → ⊥
   pub fewest : (other : List Choice) → IsListOf meant other → length other < count
-      → HasExit meant (run first (choices_from_start section first other))
+      → HasExit meant (run first (choices_from_start (habits_with section owners) first other))
   pub shortest : (other : List Choice) → IsListOf meant other → length other < count
       → HasExit meant (run first other)
 

@@ -1,5 +1,5 @@
 -- What harts take at once: local steps, and steps on words of their own, but none in a section.
-use Rattle.std.specs.Prelude.{ℕ, zero, suc, ◌+◌, Bool, true, false, not, ◌&&◌, if◌then◌else◌, Option, Some, None, slice_get}
+use Rattle.std.specs.Prelude.{ℕ, zero, suc, ◌+◌, Bool, false, not, ◌&&◌, ◌||◌, ◌==◌, if◌then◌else◌, List, [], ◌∷◌, Option, Some, None, slice_get}
 use Rattle.mem_store.specs.Memory.{Memory}
 use Rattle.hart_step.specs.Hart.{HartValue}
 use Rattle.hart_local.specs.LocalRuns.{plain_choices}
@@ -7,14 +7,31 @@ use Rattle.machine.specs.World.{World, step, run}
 use Rattle.explore_laws.specs.Bounds.{not_stopped}
 use Rattle.explore_laws.specs.Quiet.{OfNextStep}
 use Rattle.explore_laws.specs.Settling.{Stride}
-use Rattle.explore_sites.specs.Own.{Owners, clear_in, is_alone, unrefused}
+use Rattle.bank_laws.specs.Runs.{Touch}
+use Rattle.bank_laws.specs.Table.{is_unwritable}
+use Rattle.explore_sites.specs.Own.{Owners, clear_in, is_alone, is_store_conditional, may_store, only_loads, unrefused}
 use Rattle.explore_space.specs.Resting.{resting_steps, rests_in}
+use Rattle.explore_space.specs.declared.own_words.OwnWord.{OwnWord}
 use Rattle.explore_space.specs.declared.section.Section.{Section}
+use Rattle.explore_space.specs.declared.settling.LocalCode.{LocalCode}
 
 -- the section in which no step is taken at once, if there is one, and which words are whose
 pub record Habits : Type 0 where
   pub section : Option Section
   pub owners : Owners
+
+-- the same from its parts
+abbrev pub habits_with : Option Section → Owners → Habits
+habits_with section owners = record { section = section; owners = owners }
+
+-- whose a word is by a list, in which its first entry counts
+abbrev pub owners_in : List OwnWord → Owners
+owners_in [] x = None
+owners_in (own ∷ words) x = if own.word == x then Some own.hart else owners_in words x
+
+-- what harts take at once over this code
+abbrev pub habits_of : {Z : Type 0} → LocalCode Z → Habits
+habits_of code = habits_with code.section (owners_in code.words.items)
 
 -- whether a hart runs, doesn't stand in the section, and no other hart sees its next step
 abbrev pub takes_quiet_step : Habits → Memory → ℕ → HartValue → Bool
@@ -43,6 +60,12 @@ takes_own_by habits w h (Some v) = takes_quiet_step habits w.memory h v && not (
 
 abbrev pub takes_own_step : Habits → OfNextStep
 takes_own_step habits w h = takes_own_by habits w h (slice_get w.harts h)
+
+-- whether a step with this touch of an own word is one: it is no store-conditional's, which a
+-- refusal changes, and neither loads a word that can't be written nor stores into it
+abbrev pub waits_on_own : Memory → Touch → Bool
+waits_on_own m t =
+    not (is_store_conditional t.act) && not ((only_loads t.act || may_store t.act) && is_unwritable m t.word)
 
 -- the local steps that hart h takes at once in a world
 abbrev pub local_stride : Habits → Stride

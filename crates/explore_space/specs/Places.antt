@@ -19,8 +19,7 @@ use Rattle.explore_sites.specs.Cells.{words_shown, WordsDiffer}
 use Rattle.explore_sites.specs.Sites.{StepsTo}
 use Rattle.explore_sites.specs.declared.cell.Cell.{Cell}
 use Rattle.explore_laws.specs.Places.{Place}
-use Rattle.explore_space.specs.Resting.{stride_of}
-use Rattle.explore_space.specs.declared.section.Section.{Section}
+use Rattle.explore_space.specs.Habits.{Habits, stride_by_habit}
 use Rattle.explore_space.specs.declared.shared.Shared.{Shared}
 
 -- the hart of a number
@@ -53,9 +52,9 @@ world_of_key image n harts shareds key = record {
 }
 
 -- its place
-abbrev pub place_of_key : {Z : Type 0} → Option Section → ImageValue → ℕ → List Hart → List (Shared Z) → List ℕ → Place
-place_of_key section image n harts shareds key = record {
-  stride = stride_of section;
+abbrev pub place_of_key : {Z : Type 0} → Habits → ImageValue → ℕ → List Hart → List (Shared Z) → List ℕ → Place
+place_of_key habits image n harts shareds key = record {
+  stride = stride_by_habit habits;
   world = world_of_key image n harts shareds key;
   chosen = λ k. slice_index key (n + 1 + k) == 1;
 }
@@ -93,14 +92,14 @@ pub record IsKey {Z : Type 0} (image : ImageValue) (n : ℕ) (known : List Hart)
   pub aligned : All IsAligned (world_of_key image n known shareds key).harts
 
 -- a row of words is the key of a place
-abbrev pub IsKeyOf : {Z : Type 0} → Option Section → ImageValue → ℕ → List Hart → List (Shared Z) → List ℕ → Place → Type 0
-IsKeyOf section image n harts shareds key p =
-    IsKey image n harts shareds key × (place_of_key section image n harts shareds key ≡ p)
+abbrev pub IsKeyOf : {Z : Type 0} → Habits → ImageValue → ℕ → List Hart → List (Shared Z) → List ℕ → Place → Type 0
+IsKeyOf habits image n harts shareds key p =
+    IsKey image n harts shareds key × (place_of_key habits image n harts shareds key ≡ p)
 
 -- keys stay the keys of their places where more is known
-abbrev pub KeysStay : {Z : Type 0} → Option Section → ImageValue → ℕ → List Hart → List (Shared Z) → List Hart → List (Shared Z) → Type 0
-KeysStay section image n harts shareds more_harts more_shareds = (k : List ℕ) → IsKey image n harts shareds k
-    → IsKeyOf section image n more_harts more_shareds k (place_of_key section image n harts shareds k)
+abbrev pub KeysStay : {Z : Type 0} → Habits → ImageValue → ℕ → List Hart → List (Shared Z) → List Hart → List (Shared Z) → Type 0
+KeysStay habits image n harts shareds more_harts more_shareds = (k : List ℕ) → IsKey image n harts shareds k
+    → IsKeyOf habits image n more_harts more_shareds k (place_of_key habits image n harts shareds k)
 
 -- hart h of a world is this one, and the words and reservations there are these
 pub record ShowsHart {Z : Type 0} (image : ImageValue) (w : World) (h : ℕ) (v : HartValue) (shared : Shared Z) : Type 0 where

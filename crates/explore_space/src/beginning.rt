@@ -6,10 +6,10 @@ ghost use Rattle.machine.specs.Start.{started};
 ghost use Rattle.machine.specs.World.{World};
 ghost use Rattle.hart_step.specs.Hart.{hart_of};
 ghost use Rattle.explore_laws.specs.Places.{place_begun};
-ghost use Rattle.explore_space.specs.Begun.{first_steps, runs_outside, place_hart_begun, settled_start};
+ghost use Rattle.explore_space.specs.Begun.{first_steps, runs_outside, place_hart_begun, turns_start};
+ghost use Rattle.explore_space.specs.Habits.{habits_of, stride_by_habit};
 ghost use Rattle.explore_space.specs.Memo.{AreRests};
 ghost use Rattle.explore_space.specs.Places.{IsKey, IsKeyOf, hart_numbered, place_of_key};
-ghost use Rattle.explore_space.specs.Resting.{stride_of};
 
 use crate::first::first_harts;
 use crate::kept::Kept;
@@ -17,7 +17,7 @@ use crate::memo::Memo;
 use crate::section::Section;
 use crate::settling::{LocalCode, runs_outside, settle};
 use crate::shared::Shared;
-use crate::stepping::settled_key;
+use crate::stepping::rested_key;
 use hart_step::Hart;
 use image::Image;
 use machine::Inputs;
@@ -54,12 +54,12 @@ fn begin_hart<A: Allocator + Copy>(
     requires there { number < count }
     requires is { IsKey image.now count harts.old.parts.items shareds.now key.items }
     requires kept { AreRests code.now.section image.now harts.old.parts.items rests.old.keys rests.old.answers }
-    ensures key { IfOk result (λ next. IsKeyOf code.now.section image.now count harts.new.parts.items shareds.now next.items
-        (place_hart_begun code.now.section (place_of_key code.now.section image.now count harts.old.parts.items shareds.now key.items) number)) }
+    ensures key { IfOk result (λ next. IsKeyOf (habits_of code.now) image.now count harts.new.parts.items shareds.now next.items
+        (place_hart_begun code.now.section (place_of_key (habits_of code.now) image.now count harts.old.parts.items shareds.now key.items) number)) }
     ensures known { AreRests code.now.section image.now harts.new.parts.items rests.new.keys rests.new.answers }
 {
     let before = Vec::from_slice(alloc, &key)?;
-    let next = settled_key(image, code, count, harts, shareds, rests, key, number)?;
+    let next = rested_key(image, code, count, harts, shareds, rests, key, number)?;
     if runs_outside_at(harts, &next, number, code.section) {
         return Ok(next);
     }
@@ -79,11 +79,11 @@ pub fn begun_key<A: Allocator + Copy>(
     key: Vec<u32, A>,
 ) -> Result<Vec<u32, A>, AllocError>
     requires its_code { segments_memory code.now.code ≡ code_in (image_memory image.now) }
-    requires is { IsKeyOf code.now.section image.now (length inputs.now) harts.old.parts.items shareds.now key.items
-        (place_begun (stride_of code.now.section) (started image.now inputs.now)) }
+    requires is { IsKeyOf (habits_of code.now) image.now (length inputs.now) harts.old.parts.items shareds.now key.items
+        (place_begun (stride_by_habit (habits_of code.now)) (started image.now inputs.now)) }
     requires kept { AreRests code.now.section image.now harts.old.parts.items rests.old.keys rests.old.answers }
-    ensures key { IfOk result (λ next. IsKeyOf code.now.section image.now (length inputs.now) harts.new.parts.items shareds.now next.items
-        (place_begun (stride_of code.now.section) (settled_start code.now.section (started image.now inputs.now)))) }
+    ensures key { IfOk result (λ next. IsKeyOf (habits_of code.now) image.now (length inputs.now) harts.new.parts.items shareds.now next.items
+        (turns_start (habits_of code.now) (started image.now inputs.now))) }
     ensures known { AreRests code.now.section image.now harts.new.parts.items rests.new.keys rests.new.answers }
 {
     let count = inputs.harts() as usize;
@@ -114,18 +114,18 @@ fn steps_of_hart<A: Allocator>(hart: &Hart, code: &LocalCode<A>) -> u32
 pub fn begun_steps<A: Allocator + Copy>(
     alloc: A,
     image: &Image<A>,
+    code: &LocalCode<A>,
     inputs: &Inputs,
-    section: Option<Section>,
 ) -> Result<Vec<u32, A>, AllocError>
+    requires { segments_memory code.now.code ≡ code_in (image_memory image.now) }
     ensures count { IfOk result (λ steps. length steps.items ≡ length inputs.now) }
     ensures are { IfOk result (λ steps. (h n : ℕ) → slice_get steps.items h ≡ Some n
-        → n ≡ first_steps section (started image.now inputs.now) h) }
+        → n ≡ first_steps code.now.section (started image.now inputs.now) h) }
 {
-    let code = LocalCode::new(alloc, image, section)?;
     let harts = first_harts(alloc, image, inputs)?;
     let mut steps = Vec::new(alloc);
     'harts: for hart in &harts {
-        steps.push(steps_of_hart(hart, &code))?;
+        steps.push(steps_of_hart(hart, code))?;
     }
     Ok(steps)
 }

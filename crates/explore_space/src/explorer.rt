@@ -1,20 +1,20 @@
 //! The worlds of a program.
-ghost use Rattle.std.specs.Prelude.{◌≡◌, ◌+◌, ◌==◌, ℕ, Bool, List, IfOk, length, map, slice_index, take};
-ghost use Rattle.image.specs.Image.{ImageValue};
+ghost use Rattle.std.specs.Prelude.{◌≡◌, ◌+◌, ◌<◌, ◌==◌, ℕ, Bool, List, IfOk, length, map, slice_get, slice_index, take};
 ghost use Rattle.machine.specs.Start.{started};
 ghost use Rattle.explore_laws.specs.OwnSteps.{steps_in_turn};
-ghost use Rattle.explore_laws.specs.Places.{Place, place_begun};
 ghost use Rattle.outcome.specs.Expect.{fails, judged};
 ghost use Rattle.outcome.specs.declared.expect.Exit.TheVariants.{May};
-ghost use Rattle.explore_space.specs.Begun.{settled_start};
+ghost use Rattle.mem_store.specs.Image.{image_memory, segments_memory};
+ghost use Rattle.hart_local.specs.CodeMemory.{code_in};
+ghost use Rattle.explore_space.specs.Begun.{turns_start};
+ghost use Rattle.explore_space.specs.Habits.{habits_of, owners_in, stride_by_habit};
 ghost use Rattle.explore_space.specs.Places.{IsKey, hart_numbered, place_of_key, world_of_key};
-ghost use Rattle.explore_space.specs.Failing.{breaks_section, breaks_word, ends_there, fails_there, one_each};
-ghost use Rattle.explore_space.specs.Resting.{stride_of};
+ghost use Rattle.explore_space.specs.Failing.{breaks_section, breaks_word, ends_search, ends_there, fails_there, one_each, strays_by, strays_from};
 
 use crate::failing::{breaks_word, fails_at, harts_within, has_ended_at};
 use crate::known::Known;
 use crate::question::Always;
-use crate::section::Section;
+use crate::settling::LocalCode;
 use crate::stepping::steps_from;
 use explore_search::Space;
 use hart_step::Hart;
@@ -34,23 +34,24 @@ pub struct Explorer<'a, A: Allocator> {
 }
 
 impl<'a, A: Allocator + Copy> Explorer<'a, A> {
-    /// Nothing is known yet. The section is the one in which no two harts may stand. Fails when out
-    /// of memory.
+    /// Nothing is known yet. The code's section is the one in which no two harts may stand. Fails when
+    /// out of memory.
     pub fn new(
         alloc: A,
         image: &'a Image<A>,
+        code: &'a LocalCode<A>,
         inputs: &'a Inputs,
         rule: Option<Kind>,
         always: Option<Always>,
-        never_both: Option<Section>,
     ) -> Result<Explorer<'a, A>, AllocError>
+        requires { segments_memory code.now.code ≡ code_in (image_memory image.now) }
         ensures image { IfOk result (λ e. e.known.image.now ≡ image.now) }
         ensures inputs { IfOk result (λ e. e.inputs.now ≡ inputs.now) }
         ensures rule { IfOk result (λ e. e.rule ≡ rule) }
         ensures always { IfOk result (λ e. e.always ≡ always) }
-        ensures section { IfOk result (λ e. e.known.code.section ≡ never_both) }
+        ensures code { IfOk result (λ e. e.known.code.now ≡ code.now) }
     {
-        let known = Known::new(alloc, image, never_both)?;
+        let known = Known::new(alloc, image, code)?;
         Ok(Explorer {
             alloc,
             known,
@@ -67,18 +68,11 @@ impl<'a, A: Allocator + Copy> Explorer<'a, A> {
         &self.known.harts.parts
     }
 
-    /// The section in which no two harts may stand, if that is asked.
-    pub fn section(&self) -> Option<Section>
-        ensures { result ≡ self.now.known.code.section }
-    {
-        self.known.code.section
-    }
-
     /// How many steps a turn's hart takes in it from a key's place. The only error is out of memory.
     pub fn steps_in(&self, key: &[u32], turn: Choice) -> Result<u32, AllocError>
         requires { IsKey self.now.known.image.now (length self.now.inputs.now) self.now.known.harts.parts.items
             self.now.known.shareds.parts.items key.now }
-        ensures { IfOk result (λ steps. steps ≡ steps_in_turn (stride_of self.now.known.code.section) (world_of_key self.now.known.image.now (length self.now.inputs.now)
+        ensures { IfOk result (λ steps. steps ≡ steps_in_turn (stride_by_habit (habits_of self.now.known.code.now)) (world_of_key self.now.known.image.now (length self.now.inputs.now)
             self.now.known.harts.parts.items self.now.known.shareds.parts.items key.now) turn.hart turn) }
     {
         let count = self.inputs.harts() as usize;
@@ -91,7 +85,7 @@ impl<'a, A: Allocator + Copy> Explorer<'a, A> {
         steps_from(
             self.alloc,
             self.known.image,
-            &self.known.code,
+            self.known.code,
             hart,
             shared,
             turn,
@@ -117,7 +111,7 @@ impl<'a, A: Allocator + Copy> Explorer<'a, A> {
     fn breaks_section_at(&self, key: &[u32]) -> Result<bool, AllocError>
         requires { IsKey self.now.known.image.now (length self.now.inputs.now) self.now.known.harts.parts.items
             self.now.known.shareds.parts.items key.now }
-        ensures { IfOk result (λ answer. answer ≡ breaks_section self.now.known.code.section (world_of_key self.now.known.image.now
+        ensures { IfOk result (λ answer. answer ≡ breaks_section self.now.known.code.now.section (world_of_key self.now.known.image.now
             (length self.now.inputs.now) self.now.known.harts.parts.items self.now.known.shareds.parts.items key.now)) }
     {
         let Some(section) = self.known.code.section else {
@@ -126,6 +120,38 @@ impl<'a, A: Allocator + Copy> Explorer<'a, A> {
         let count = self.inputs.harts() as usize;
         let within = harts_within(self.alloc, &self.known.harts.parts, count, key, section)?;
         Ok(!(within < 2))
+    }
+
+    // Whether the hart with this number may stray into another's words in a key's place.
+    fn strays_there(&self, key: &[u32], number: u32) -> bool
+        requires is { IsKey self.now.known.image.now (length self.now.inputs.now) self.now.known.harts.parts.items
+            self.now.known.shareds.parts.items key.now }
+        requires there { number < length self.now.inputs.now }
+        ensures { result ≡ strays_by (owners_in self.now.known.code.now.words.items) (world_of_key self.now.known.image.now (length self.now.inputs.now)
+            self.now.known.harts.parts.items self.now.known.shareds.parts.items key.now) number
+            (slice_get (world_of_key self.now.known.image.now (length self.now.inputs.now)
+            self.now.known.harts.parts.items self.now.known.shareds.parts.items key.now).harts number) }
+    {
+        let hart = &self.known.harts.parts[key[number as usize] as usize];
+        self.known.code.strays(self.known.image, hart, number)
+    }
+
+    // Whether some hart may stray so; where no word belongs to one there is nothing to look at.
+    fn strays_at(&self, key: &[u32]) -> bool
+        requires { IsKey self.now.known.image.now (length self.now.inputs.now) self.now.known.harts.parts.items
+            self.now.known.shareds.parts.items key.now }
+        ensures { result ≡ strays_from self.now.known.code.now.words.items (world_of_key self.now.known.image.now (length self.now.inputs.now)
+            self.now.known.harts.parts.items self.now.known.shareds.parts.items key.now) (length self.now.inputs.now) }
+    {
+        if self.known.code.words.is_empty() {
+            return false;
+        }
+        'harts: for number in 0..self.inputs.harts() {
+            if self.strays_there(key, number) {
+                return true;
+            }
+        }
+        false
     }
 
     // Whether the rule is broken in a key's place, or without a rule a hart has faulted.
@@ -146,14 +172,31 @@ impl<'a, A: Allocator + Copy> Explorer<'a, A> {
     }
 }
 
+impl<'a, A: Allocator + Copy> Explorer<'a, A> {
+    // Whether the run to a key's place has failed: a word isn't what it must be, two harts stand in
+    // the section, the rule is broken, or without a rule a hart has faulted.
+    fn has_failed(&self, key: &[u32]) -> Result<bool, AllocError>
+        requires { IsKey self.now.known.image.now (length self.now.inputs.now) self.now.known.harts.parts.items
+            self.now.known.shareds.parts.items key.now }
+        ensures { IfOk result (λ answer. answer ≡ fails_there self.now.rule self.now.always self.now.known.code.now.section self.now.inputs.now
+            (place_of_key (habits_of self.now.known.code.now) self.now.known.image.now (length self.now.inputs.now)
+            self.now.known.harts.parts.items self.now.known.shareds.parts.items key.now)) }
+    {
+        if self.breaks_word_at(key) || self.breaks_section_at(key)? {
+            return Ok(true);
+        }
+        self.fails_by_rule_at(key)
+    }
+}
+
 impl<'a, A: Allocator + Copy> Space<A> for Explorer<'a, A> {
     ghost is_key = { λ e key. IsKey e.known.image.now (length e.inputs.now) e.known.harts.parts.items e.known.shareds.parts.items key };
 
-    ghost place = { λ e key. place_of_key e.known.code.section e.known.image.now (length e.inputs.now) e.known.harts.parts.items e.known.shareds.parts.items key };
+    ghost place = { λ e key. place_of_key (habits_of e.known.code.now) e.known.image.now (length e.inputs.now) e.known.harts.parts.items e.known.shareds.parts.items key };
 
-    ghost first = { λ e. place_begun (stride_of e.known.code.section) (settled_start e.known.code.section (started e.known.image.now e.inputs.now)) };
+    ghost first = { λ e. turns_start (habits_of e.known.code.now) (started e.known.image.now e.inputs.now) };
 
-    ghost bad = { λ e p. fails_there e.rule e.always e.known.code.section e.inputs.now p };
+    ghost bad = { λ e p. ends_search e.rule e.always e.known.code.now.section e.known.code.now.words.items e.inputs.now p };
 
     ghost ended = { λ e p. ends_there p };
 
@@ -167,10 +210,10 @@ impl<'a, A: Allocator + Copy> Space<A> for Explorer<'a, A> {
     }
 
     fn is_bad(&self, key: &[u32]) -> Result<bool, AllocError> {
-        if self.breaks_word_at(key) || self.breaks_section_at(key)? {
+        if self.has_failed(key)? {
             return Ok(true);
         }
-        self.fails_by_rule_at(key)
+        Ok(self.strays_at(key))
     }
 
     fn has_ended(&self, key: &[u32]) -> Result<bool, AllocError> {

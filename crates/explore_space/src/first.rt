@@ -1,11 +1,10 @@
 //! The first key.
-ghost use Rattle.std.specs.Prelude.{◌≡◌, ◌<◌, ◌≤◌, ◌+◌, ◌*◌, ℕ, IfOk, Option, length, map, slice_index};
+ghost use Rattle.std.specs.Prelude.{◌≡◌, ◌<◌, ◌≤◌, ◌+◌, ◌*◌, ℕ, IfOk, length, map, slice_index};
 ghost use Rattle.hart_step.specs.Hart.{hart_of};
 ghost use Rattle.machine.specs.Start.{started};
 ghost use Rattle.explore_laws.specs.Places.{place_begun};
-ghost use Rattle.explore_space.specs.declared.section.Section.{Section};
 ghost use Rattle.explore_space.specs.Places.{IsKeyOf};
-ghost use Rattle.explore_space.specs.Resting.{stride_of};
+ghost use Rattle.explore_space.specs.Habits.{Habits, stride_by_habit};
 
 use crate::kept::Kept;
 use crate::shared::Shared;
@@ -55,8 +54,8 @@ pub fn first_parts<A: Allocator + Copy>(
     harts: &mut Kept<Hart, A>,
     shareds: &mut Kept<Shared<A>, A>,
 ) -> Result<Vec<u32, A>, AllocError>
-    ensures { IfOk result (λ key. (section : Option Section) → IsKeyOf section image.now (length inputs.now) harts.new.parts.items shareds.new.parts.items
-        key.items (place_begun (stride_of section) (started image.now inputs.now))) }
+    ensures { IfOk result (λ key. (habits : Habits) → IsKeyOf habits image.now (length inputs.now) harts.new.parts.items shareds.new.parts.items
+        key.items (place_begun (stride_by_habit habits) (started image.now inputs.now))) }
 {
     if image.entry() % 4 != 0 {
         return Err(AllocError);

@@ -3,17 +3,16 @@ ghost use Rattle.std.specs.Prelude.{◌≡◌, ◌<◌, List, ℕ, IfOk, length}
 ghost use Rattle.mem_store.specs.Image.{image_memory, segments_memory};
 ghost use Rattle.hart_local.specs.CodeMemory.{code_in};
 ghost use Rattle.machine.specs.Start.{started};
-ghost use Rattle.explore_laws.specs.Places.{place_after, place_begun};
-ghost use Rattle.explore_space.specs.Begun.{settled_start};
+ghost use Rattle.explore_laws.specs.Places.{place_after};
+ghost use Rattle.explore_space.specs.Begun.{turns_start};
+ghost use Rattle.explore_space.specs.Habits.{habits_of};
 ghost use Rattle.explore_space.specs.Memo.{AreRests, AreSteps};
 ghost use Rattle.explore_space.specs.Places.{IsKey, IsKeyOf, KeysStay, place_of_key};
-ghost use Rattle.explore_space.specs.Resting.{stride_of};
 
 use crate::beginning::begun_key;
 use crate::first::first_parts;
 use crate::kept::Kept;
 use crate::memo::Memo;
-use crate::section::Section;
 use crate::settling::LocalCode;
 use crate::shared::Shared;
 use crate::stepping::{settled_key, stepped_key};
@@ -27,17 +26,17 @@ use std::alloc::{AllocError, Allocator};
 pub struct Known<'a, A: Allocator> {
     /// The program.
     pub image: &'a Image<A>,
-    /// Its code, and the section in which no local step is taken at once.
-    pub code: LocalCode<A>,
+    /// Its code, the section in which no step is taken at once, and whose words are.
+    pub code: &'a LocalCode<A>,
     /// The harts.
     pub harts: Kept<Hart, A>,
     /// What harts share.
     pub shareds: Kept<Shared<A>, A>,
     steps: Memo<A>,
     rests: Memo<A>,
-    ghost its_code: { segments_memory code.code ≡ code_in (image_memory image.now) },
+    ghost its_code: { segments_memory code.now.code ≡ code_in (image_memory image.now) },
     ghost steps_are: { AreSteps image.now harts.parts.items shareds.parts.items steps.keys steps.answers },
-    ghost rests_are: { AreRests code.section image.now harts.parts.items rests.keys rests.answers },
+    ghost rests_are: { AreRests code.now.section image.now harts.parts.items rests.keys rests.answers },
 }
 
 impl<'a, A: Allocator + Copy> Known<'a, A> {
@@ -46,12 +45,12 @@ impl<'a, A: Allocator + Copy> Known<'a, A> {
     pub fn new(
         alloc: A,
         image: &'a Image<A>,
-        section: Option<Section>,
+        code: &'a LocalCode<A>,
     ) -> Result<Known<'a, A>, AllocError>
+        requires { segments_memory code.now.code ≡ code_in (image_memory image.now) }
         ensures image { IfOk result (λ known. known.image.now ≡ image.now) }
-        ensures section { IfOk result (λ known. known.code.section ≡ section) }
+        ensures code { IfOk result (λ known. known.code.now ≡ code.now) }
     {
-        let code = LocalCode::new(alloc, image, section)?;
         let harts = Kept::new(alloc)?;
         let shareds = Kept::new(alloc)?;
         let steps = Memo::new(alloc)?;
@@ -69,11 +68,11 @@ impl<'a, A: Allocator + Copy> Known<'a, A> {
     /// The key of the place in which turns start; nothing else is known then.
     #[tactic(auto, using(crate::proofs::MemoLemmas::no_steps, crate::proofs::MemoLemmas::no_rests))]
     pub fn begin(&mut self, alloc: A, inputs: &Inputs) -> Result<Vec<u32, A>, AllocError>
-        ensures key { IfOk result (λ key. IsKeyOf self.new.code.section self.new.image.now (length inputs.now) self.new.harts.parts.items
+        ensures key { IfOk result (λ key. IsKeyOf (habits_of self.new.code.now) self.new.image.now (length inputs.now) self.new.harts.parts.items
             self.new.shareds.parts.items key.items
-            (place_begun (stride_of self.old.code.section) (settled_start self.old.code.section (started self.old.image.now inputs.now)))) }
+            (turns_start (habits_of self.old.code.now) (started self.old.image.now inputs.now))) }
         ensures image { self.new.image.now ≡ self.old.image.now }
-        ensures section { self.new.code.section ≡ self.old.code.section }
+        ensures code { self.new.code.now ≡ self.old.code.now }
     {
         self.steps = Memo::new(alloc)?;
         self.rests = Memo::new(alloc)?;
@@ -87,7 +86,7 @@ impl<'a, A: Allocator + Copy> Known<'a, A> {
         begun_key(
             alloc,
             self.image,
-            &self.code,
+            self.code,
             inputs,
             &mut self.harts,
             &self.shareds.parts,
@@ -105,13 +104,13 @@ impl<'a, A: Allocator + Copy> Known<'a, A> {
         turn: Choice,
     ) -> Result<Vec<u32, A>, AllocError>
         requires { IsKey self.old.image.now count self.old.harts.parts.items self.old.shareds.parts.items key.now }
-        ensures key { IfOk result (λ next. IsKeyOf self.old.code.section self.old.image.now count self.new.harts.parts.items
-            self.new.shareds.parts.items next.items (place_after (place_of_key self.old.code.section self.old.image.now count
+        ensures key { IfOk result (λ next. IsKeyOf (habits_of self.old.code.now) self.old.image.now count self.new.harts.parts.items
+            self.new.shareds.parts.items next.items (place_after (place_of_key (habits_of self.old.code.now) self.old.image.now count
             self.old.harts.parts.items self.old.shareds.parts.items key.now) turn)) }
-        ensures kept { KeysStay self.old.code.section self.old.image.now count self.old.harts.parts.items self.old.shareds.parts.items
+        ensures kept { KeysStay (habits_of self.old.code.now) self.old.image.now count self.old.harts.parts.items self.old.shareds.parts.items
             self.new.harts.parts.items self.new.shareds.parts.items }
         ensures image { self.new.image.now ≡ self.old.image.now }
-        ensures section { self.new.code.section ≡ self.old.code.section }
+        ensures code { self.new.code.now ≡ self.old.code.now }
     {
         let next = stepped_key(
             alloc,
@@ -124,14 +123,16 @@ impl<'a, A: Allocator + Copy> Known<'a, A> {
             turn,
         )?;
         settled_key(
+            alloc,
             self.image,
-            &self.code,
+            self.code,
             count,
             &mut self.harts,
-            &self.shareds.parts,
+            &mut self.shareds,
+            &mut self.steps,
             &mut self.rests,
             next,
-            turn.hart as usize,
+            turn.hart,
         )
     }
 }

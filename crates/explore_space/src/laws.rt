@@ -1,5 +1,5 @@
 //! Why local steps can wait.
-ghost use Rattle.std.specs.Prelude.{◌≤◌, Some, Option};
+ghost use Rattle.std.specs.Prelude.{◌≡◌, ◌≤◌, Some, Option};
 ghost use Rattle.machine.specs.World.{World};
 ghost use Rattle.property_judge.specs.Property.{harts_between};
 ghost use Rattle.explore_laws.specs.Covering.{WorldCovers};
@@ -19,12 +19,13 @@ pub fn local_steps_can_wait()
 /// run's world as in that one.
 #[tactic(auto, using(crate::proofs::StandLemmas::within_passes))]
 pub fn harts_in_a_section_are_seen()
-    ensures { (section : Section) (s w : World) → WorldCovers (is_quiet (Some section)) s w
+    ensures { (habits : Habits) (section : Section) → habits.section ≡ Some section
+        → (s w : World) → WorldCovers (quiet_by_habit habits) s w
         → harts_between section.from section.to w.harts ≤ harts_between section.from section.to s.harts }
 {}
 
 /// Local steps and steps on a hart's own words can wait, where the steps of others are clear of those
-/// words.
+/// words; each local step is such a step.
 #[tactic(auto, using(crate::proofs::HabitLemmas::habits_wait))]
 pub fn own_steps_can_wait()
     ensures { (habits : Habits) → CanWait (quiet_by_habit habits) (clear_by_habit habits) (stride_by_habit habits) }

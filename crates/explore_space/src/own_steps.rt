@@ -1,6 +1,7 @@
 //! The steps of turns, in rows.
 ghost use Rattle.std.specs.Prelude.{◌≡◌, ℕ, List, Some, IfOk, OnOk, length, slice_get};
 ghost use Rattle.explore_bounds.specs.Steps.{AreStepsFrom, HaveSteps};
+ghost use Rattle.explore_space.specs.Habits.{habits_of};
 ghost use Rattle.explore_space.specs.Places.{IsKey, place_of_key};
 
 use crate::explorer::Explorer;
@@ -17,7 +18,7 @@ fn take_row<A: Allocator + Copy>(
 ) -> Result<(), AllocError>
     requires { IsKey explorer.now.known.image.now (length explorer.now.inputs.now) explorer.now.known.harts.parts.items
         explorer.now.known.shareds.parts.items key.now }
-    ensures { OnOk result (AreStepsFrom turns.now (place_of_key explorer.now.known.code.section explorer.now.known.image.now (length explorer.now.inputs.now)
+    ensures { OnOk result (AreStepsFrom turns.now (place_of_key (habits_of explorer.now.known.code.now) explorer.now.known.image.now (length explorer.now.inputs.now)
         explorer.now.known.harts.parts.items explorer.now.known.shareds.parts.items key.now) row.new.items) }
 {
     row.clear();
@@ -38,7 +39,7 @@ pub fn steps_of_turns<A: Allocator + Copy>(
     requires { (k : ℕ) (key : List ℕ) → slice_get keys.now k ≡ Some key
         → IsKey explorer.now.known.image.now (length explorer.now.inputs.now) explorer.now.known.harts.parts.items
         explorer.now.known.shareds.parts.items key }
-    ensures { IfOk result (λ steps. HaveSteps (place_of_key explorer.now.known.code.section explorer.now.known.image.now (length explorer.now.inputs.now)
+    ensures { IfOk result (λ steps. HaveSteps (place_of_key (habits_of explorer.now.known.code.now) explorer.now.known.image.now (length explorer.now.inputs.now)
         explorer.now.known.harts.parts.items explorer.now.known.shareds.parts.items) turns.now keys.now steps) }
 {
     let mut steps = Rows::new(alloc);

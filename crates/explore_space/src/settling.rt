@@ -1,16 +1,25 @@
-//! Local steps taken at once.
+//! Steps taken at once.
 ghost use Rattle.std.specs.Prelude.{◌≡◌, ◌≤◌, if◌then◌else◌, IfOk, None, Some};
+ghost use Rattle.std.specs.Prelude.{ℕ, Some, slice_get};
 ghost use Rattle.mem_store.specs.Image.{image_memory, segments_memory};
 ghost use Rattle.hart_step.specs.Hart.{hart_of};
 ghost use Rattle.hart_local.specs.CodeMemory.{code_in};
 ghost use Rattle.hart_local.specs.LocalStep.{step_alone};
 ghost use Rattle.explore_laws.specs.Bounds.{not_stopped};
 ghost use Rattle.explore_space.specs.Resting.{at_once, may_walk, rested, rest_steps, rests_in};
+ghost use Rattle.hart_step.specs.Laws.{Keeps};
+ghost use Rattle.machine.specs.World.{World};
 ghost use Rattle.explore_space.specs.Begun.{runs_outside};
+ghost use Rattle.explore_space.specs.Failing.{strays_by};
+ghost use Rattle.bank_step.specs.Told.{as_touch};
+ghost use Rattle.explore_space.specs.Habits.{habits_of, owners_in, takes_own_step, waits_on_own};
 
+use crate::own_words::{OwnWord, owner_of};
 use crate::section::Section;
+use bank_step::{PlannedTouch, is_unwritable};
+use explore_sites::{NextTouch, next_touch};
 use hart_local::{Class, Code, classify, local_step, local_steps};
-use hart_step::{Hart, HartState};
+use hart_step::{AccessKind, Hart, HartState};
 use image::Image;
 use property_judge::is_within;
 use std::alloc::{AllocError, Allocator};
@@ -18,13 +27,18 @@ use std::alloc::{AllocError, Allocator};
 // How many local steps are taken at once at most.
 const AT_ONCE: u32 = 1024;
 
-/// Code, and the section of it in which no local step is taken at once, if there is one.
+/// How many steps on its own words a hart takes at once at most.
+pub const OWN_AT_ONCE: u32 = 64;
+
+/// Code, the section of it in which no step is taken at once, if there is one, and whose words are.
 #[derive(Drop)]
 pub struct LocalCode<A: Allocator> {
     /// The code.
     pub code: Code<A>,
     /// The section.
     pub section: Option<Section>,
+    /// Words that belong to one hart each.
+    pub words: Vec<OwnWord, A>,
 }
 
 impl<A: Allocator> LocalCode<A> {
@@ -33,14 +47,78 @@ impl<A: Allocator> LocalCode<A> {
         alloc: A,
         image: &Image<B>,
         section: Option<Section>,
+        words: Vec<OwnWord, A>,
     ) -> Result<LocalCode<A>, AllocError>
     where
         A: Copy,
         ensures memory { IfOk result (λ local. segments_memory local.code ≡ code_in (image_memory image.now)) }
         ensures section { IfOk result (λ local. local.section ≡ section) }
+        ensures words { IfOk result (λ local. local.words.items ≡ words.items) }
     {
         let code = Code::new(alloc, image)?;
-        Ok(LocalCode { code, section })
+        Ok(LocalCode {
+            code,
+            section,
+            words,
+        })
+    }
+
+    /// Whether the hart with this number takes a step on a word of its own next, if it is this one.
+    pub fn takes_own<B: Allocator>(&self, image: &Image<B>, hart: &Hart, number: u32) -> bool
+        ensures { (w : World) → slice_get w.harts number ≡ Some (hart_of hart.now) → Keeps (image_memory image.now) w.memory
+            → result ≡ takes_own_step (habits_of self.now) w number }
+    {
+        if self.words.is_empty() {
+            return false;
+        }
+        self.touches_own(image, hart, number)
+    }
+
+    // The same, whether some word has an owner or not.
+    fn touches_own<B: Allocator>(&self, image: &Image<B>, hart: &Hart, number: u32) -> bool
+        ensures { (w : World) → slice_get w.harts number ≡ Some (hart_of hart.now) → Keeps (image_memory image.now) w.memory
+            → result ≡ takes_own_step (habits_of self.now) w number }
+    {
+        if !runs_outside(hart, self.section) {
+            return false;
+        }
+        match next_touch(hart, image) {
+            NextTouch::Unknown | NextTouch::Nothing => false,
+            NextTouch::Word(touch) => match owner_of(&self.words, touch.word) {
+                Some(owner) => owner == number && can_wait(image, touch),
+                None => false,
+            },
+        }
+    }
+
+    /// Whether the hart with this number may stray into another's words, if it is this one.
+    pub fn strays<B: Allocator>(&self, image: &Image<B>, hart: &Hart, number: u32) -> bool
+        ensures { (w : World) → slice_get w.harts number ≡ Some (hart_of hart.now) → Keeps (image_memory image.now) w.memory
+            → result ≡ strays_by (owners_in self.now.words.items) w number (slice_get w.harts number) }
+    {
+        match next_touch(hart, image) {
+            NextTouch::Unknown => true,
+            NextTouch::Nothing => false,
+            NextTouch::Word(touch) => match owner_of(&self.words, touch.word) {
+                Some(owner) => owner != number,
+                None => false,
+            },
+        }
+    }
+}
+
+// Whether a step with this touch is one on an own word where the word is its hart's own: a
+// store-conditional isn't, since a refusal changes it, nor is a load or a store of a word that can't
+// be written.
+fn can_wait<A: Allocator>(image: &Image<A>, touch: PlannedTouch) -> bool
+    ensures { result ≡ waits_on_own (image_memory image.now) (as_touch touch) }
+{
+    match touch.kind {
+        AccessKind::Load | AccessKind::Store | AccessKind::Amo => {
+            !is_unwritable(image.segments(), touch.word)
+        }
+        AccessKind::LoadReserved => true,
+        AccessKind::StoreConditional => false,
     }
 }
 

@@ -1,20 +1,21 @@
 //! Keys after a choice.
-ghost use Rattle.std.specs.Prelude.{◌≡◌, if◌then◌else◌, ◌<◌, IfOk, Option, length};
+ghost use Rattle.std.specs.Prelude.{◌≡◌, if◌then◌else◌, ◌+◌, ◌<◌, ◌≤◌, IfOk, length, slice_index};
 ghost use Rattle.mem_store.specs.Image.{image_memory, segments_memory};
 ghost use Rattle.hart_step.specs.Hart.{hart_of};
 ghost use Rattle.hart_local.specs.CodeMemory.{code_in};
-ghost use Rattle.machine.specs.World.{World};
+ghost use Rattle.machine.specs.World.{World, step};
 ghost use Rattle.explore_laws.specs.OwnSteps.{steps_in_turn};
 ghost use Rattle.explore_laws.specs.Places.{place_settled, place_stepped};
+ghost use Rattle.explore_space.specs.Begun.{hart_settled, place_rested};
+ghost use Rattle.explore_space.specs.Habits.{Habits, habits_of, stride_by_habit};
 ghost use Rattle.explore_space.specs.Resting.{at_once, rested, stride_of};
-ghost use Rattle.explore_space.specs.declared.section.Section.{Section};
 ghost use Rattle.explore_search.specs.Searched.{GoesOn};
 ghost use Rattle.explore_space.specs.Memo.{AreRests, AreSteps};
 ghost use Rattle.explore_space.specs.Places.{HartsDiffer, IsKey, IsKeyOf, KeysStay, KeptOnce, PartsStep, ShowsHart, hart_numbered, place_of_key};
 
 use crate::kept::{Kept, keep_hart, keep_shared};
 use crate::memo::Memo;
-use crate::settling::{LocalCode, settle};
+use crate::settling::{LocalCode, OWN_AT_ONCE, settle};
 use crate::shared::Shared;
 use explore_sites::step_site;
 use hart_reservations::MAX_HARTS;
@@ -169,9 +170,9 @@ pub fn stepped_key<A: Allocator + Copy>(
     requires is { IsKey image.now count harts.old.parts.items shareds.old.parts.items key.now }
     requires kept { AreSteps image.now harts.old.parts.items shareds.old.parts.items steps.old.keys steps.old.answers }
     ensures there { IfOk result (λ _. choice.hart < count) }
-    ensures key { IfOk result (λ next. (section : Option Section) → IsKeyOf section image.now count harts.new.parts.items shareds.new.parts.items next.items
-        (place_stepped (place_of_key section image.now count harts.old.parts.items shareds.old.parts.items key.now) choice)) }
-    ensures kept { (section : Option Section) → KeysStay section image.now count harts.old.parts.items shareds.old.parts.items harts.new.parts.items shareds.new.parts.items }
+    ensures key { IfOk result (λ next. (habits : Habits) → IsKeyOf habits image.now count harts.new.parts.items shareds.new.parts.items next.items
+        (place_stepped (place_of_key habits image.now count harts.old.parts.items shareds.old.parts.items key.now) choice)) }
+    ensures kept { (habits : Habits) → KeysStay habits image.now count harts.old.parts.items shareds.old.parts.items harts.new.parts.items shareds.new.parts.items }
     ensures harts_go { GoesOn harts.old.parts.items harts.new.parts.items }
     ensures known { AreSteps image.now harts.new.parts.items shareds.new.parts.items steps.new.keys steps.new.answers }
 {
@@ -191,7 +192,7 @@ pub fn stepped_key<A: Allocator + Copy>(
 }
 
 /// The key of the place where a hart has taken its local steps.
-pub fn settled_key<A: Allocator + Copy>(
+pub fn rested_key<A: Allocator + Copy>(
     image: &Image<A>,
     code: &LocalCode<A>,
     count: usize,
@@ -205,9 +206,9 @@ pub fn settled_key<A: Allocator + Copy>(
     requires there { number < count }
     requires is { IsKey image.now count harts.old.parts.items shareds.now key.items }
     requires kept { AreRests code.now.section image.now harts.old.parts.items rests.old.keys rests.old.answers }
-    ensures key { IfOk result (λ next. IsKeyOf code.now.section image.now count harts.new.parts.items shareds.now next.items
-        (place_settled (place_of_key code.now.section image.now count harts.old.parts.items shareds.now key.items) number)) }
-    ensures kept { KeysStay code.now.section image.now count harts.old.parts.items shareds.now harts.new.parts.items shareds.now }
+    ensures key { IfOk result (λ next. IsKeyOf (habits_of code.now) image.now count harts.new.parts.items shareds.now next.items
+        (place_rested code.now.section (place_of_key (habits_of code.now) image.now count harts.old.parts.items shareds.now key.items) number)) }
+    ensures kept { KeysStay (habits_of code.now) image.now count harts.old.parts.items shareds.now harts.new.parts.items shareds.now }
     ensures harts_go { GoesOn harts.old.parts.items harts.new.parts.items }
     ensures known { AreRests code.now.section image.now harts.new.parts.items rests.new.keys rests.new.answers }
 {
@@ -218,8 +219,88 @@ pub fn settled_key<A: Allocator + Copy>(
     Ok(next)
 }
 
+/// The key of the place where a hart has taken the steps that it takes at once: its local steps, and
+/// then as long as its next step is on a word of its own, that one with the local steps behind it. The
+/// hart is marked as chosen already.
+pub fn settled_key<A: Allocator + Copy>(
+    alloc: A,
+    image: &Image<A>,
+    code: &LocalCode<A>,
+    count: usize,
+    harts: &mut Kept<Hart, A>,
+    shareds: &mut Kept<Shared<A>, A>,
+    steps: &mut Memo<A>,
+    rests: &mut Memo<A>,
+    key: Vec<u32, A>,
+    number: u32,
+) -> Result<Vec<u32, A>, AllocError>
+    requires its_code { segments_memory code.now.code ≡ code_in (image_memory image.now) }
+    requires there { number < count }
+    requires is { IsKey image.now count harts.old.parts.items shareds.old.parts.items key.items }
+    requires marked { slice_index key.items (count + 1 + number) ≡ 1 }
+    requires kept_steps { AreSteps image.now harts.old.parts.items shareds.old.parts.items steps.old.keys steps.old.answers }
+    requires kept_rests { AreRests code.now.section image.now harts.old.parts.items rests.old.keys rests.old.answers }
+    ensures key { IfOk result (λ next. IsKeyOf (habits_of code.now) image.now count harts.new.parts.items shareds.new.parts.items next.items
+        (place_settled (place_of_key (habits_of code.now) image.now count harts.old.parts.items shareds.old.parts.items key.items) number)) }
+    ensures kept { KeysStay (habits_of code.now) image.now count harts.old.parts.items shareds.old.parts.items
+        harts.new.parts.items shareds.new.parts.items }
+    ensures known_steps { AreSteps image.now harts.new.parts.items shareds.new.parts.items steps.new.keys steps.new.answers }
+    ensures known_rests { AreRests code.now.section image.now harts.new.parts.items rests.new.keys rests.new.answers }
+{
+    let at = number as usize;
+    let plain = Choice {
+        hart: number,
+        refuse: false,
+    };
+    let mut next = rested_key(image, code, count, harts, &shareds.parts, rests, key, at)?;
+    'own: for _ in 0..OWN_AT_ONCE {
+        if !code.takes_own(image, &harts.parts[next[at] as usize], number) {
+            return Ok(next);
+        }
+        let stepped = stepped_key(alloc, image, count, harts, shareds, steps, &next, plain)?;
+        next = rested_key(
+            image,
+            code,
+            count,
+            harts,
+            &shareds.parts,
+            rests,
+            stepped,
+            at,
+        )?;
+    }
+    Ok(next)
+}
+
+// Takes a hart's step, and the local steps behind it, and returns how many these are.
+fn steps_once<A: Allocator + Copy>(
+    image: &Image<A>,
+    code: &LocalCode<A>,
+    hart: &mut Hart,
+    shared: &mut Shared<A>,
+    choice: Choice,
+) -> Result<u32, AllocError>
+    requires its_code { segments_memory code.now.code ≡ code_in (image_memory image.now) }
+    requires there { choice.hart < 32 }
+    ensures world { IfOk result (λ steps. (w : World) → ShowsHart image.now w choice.hart (hart_of hart.old) shared.old
+        → ShowsHart image.now (hart_settled code.now.section (step w choice) choice.hart) choice.hart (hart_of hart.new) shared.new) }
+    ensures steps { IfOk result (λ steps. (w : World) → ShowsHart image.now w choice.hart (hart_of hart.old) shared.old
+        → steps ≡ 1 + stride_of code.now.section (step w choice) choice.hart) }
+    ensures few { IfOk result (λ steps. steps ≤ 1 + at_once) }
+{
+    step_site(
+        image,
+        hart,
+        choice.hart as usize,
+        &mut shared.marks,
+        &mut shared.cells,
+        choice.refuse,
+    )?;
+    Ok(1 + settle(hart, code))
+}
+
 /// How many steps a turn's hart takes in it where it is this one, and shares this: its step, and
-/// the local steps behind it; none if it has stopped. The only error is out of memory.
+/// those that it takes at once behind it; none if it has stopped. The only error is out of memory.
 pub fn steps_from<A: Allocator + Copy>(
     alloc: A,
     image: &Image<A>,
@@ -231,22 +312,27 @@ pub fn steps_from<A: Allocator + Copy>(
     requires its_code { segments_memory code.now.code ≡ code_in (image_memory image.now) }
     requires there { turn.hart < 32 }
     ensures { IfOk result (λ steps. (w : World) → ShowsHart image.now w turn.hart (hart_of hart.now) shared.now
-        → steps ≡ steps_in_turn (stride_of code.now.section) w turn.hart turn) }
+        → steps ≡ steps_in_turn (stride_by_habit (habits_of code.now)) w turn.hart turn) }
 {
     match hart.state {
         HartState::Running => {}
         HartState::Exited(_) | HartState::Faulted(_) => return Ok(0),
     }
     let mut after = *hart;
-    let mut marks = marks_of(shared);
-    let mut cells = Vec::from_slice(alloc, &shared.cells)?;
-    step_site(
-        image,
-        &mut after,
-        turn.hart as usize,
-        &mut marks,
-        &mut cells,
-        turn.refuse,
-    )?;
-    Ok(1 + settle(&mut after, code))
+    let mut here = Shared {
+        marks: marks_of(shared),
+        cells: Vec::from_slice(alloc, &shared.cells)?,
+    };
+    let mut steps = steps_once(image, code, &mut after, &mut here, turn)?;
+    let plain = Choice {
+        hart: turn.hart,
+        refuse: false,
+    };
+    'own: for _ in 0..OWN_AT_ONCE {
+        if !code.takes_own(image, &after, turn.hart) {
+            return Ok(steps);
+        }
+        steps += steps_once(image, code, &mut after, &mut here, plain)?;
+    }
+    Ok(steps)
 }

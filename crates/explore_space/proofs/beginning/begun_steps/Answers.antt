@@ -1,4 +1,4 @@
-use Rattle.std.proofs.Common.{◌+◌, List, [], length, map, Some, ap, sym, ◌∙◌, subst, arith}
+use Rattle.std.proofs.Common.{◌+◌, List, [], length, map, Some, ap, sym, ◌∙◌, arith}
 use Rattle.std.proofs.lemmas.List.{length-append, length-map}
 use Rattle.std.proofs.lemmas.Option.{slice_get-get_or, slice_get-map}
 use Rattle.std.specs.Option.{option_map}
@@ -9,7 +9,7 @@ use Rattle.hart_local.proofs.RunLemmas.{code_of_run}
 use Rattle.machine.specs.Start.{started}
 use Rattle.machine.specs.World.{World}
 use Rattle.machine.proofs.RunLaws.{length-started}
-use Rattle.explore_space.proofs.BeginLemmas.{AreFirst, first_of_more, first_of_none}
+use Rattle.explore_space.proofs.BeginLemmas.{first_of_more, first_of_none}
 use Rattle.explore_space.proofs.beginning.begun_steps.Goals as goal
 use Rattle.explore_laws.proofs.ListLemmas.{run_nothing}
 
@@ -17,7 +17,7 @@ pub harts-init : goal.harts-init
 harts-init g c = record {
   count = ap length c.new-steps.ensures.items;
   low = (let none = ap length c.new-steps.ensures.items in omega (arith, none));
-  are = first_of_none c.in_ok-code.code.section (started c.args.image.now c.args.inputs.now) _ c.new-steps.ensures.items;
+  are = first_of_none c.args.code.now.section (started c.args.image.now c.args.inputs.now) _ c.new-steps.ensures.items;
 }
 
 pub harts-preserved : goal.harts-preserved
@@ -27,7 +27,7 @@ harts-preserved g c =
     let at = ap (λ (xs : List HartValue). slice_get xs c.harts.hart-index)
     (sym c.in_ok-harts.ensures ∙ ap (map hart_of) (sym c.deref-hart-items.ensures.value)) ∙ slice_get-map hart_of hs c.harts.hart-index
     ∙ ap (option_map hart_of) (slice_get-get_or hs c.harts.hart-index c.hart-item.result c.harts-test.true ∙ ap Some (sym c.hart-item.is)) in
-    let code_is = c.in_ok-code.ensures.memory ∙ sym (code_of_run c.args.image.now c.args.inputs.now []) ∙ ap (λ (x : World). code_in x.memory) (run_nothing w) in
+    let code_is = c.requires ∙ sym (code_of_run c.args.image.now c.args.inputs.now []) ∙ ap (λ (x : World). code_in x.memory) (run_nothing w) in
     let len = sym (length-map hs hart_of)
     ∙ ap length (ap (map hart_of) c.deref-hart-items.ensures.value ∙ c.in_ok-harts.ensures)
     ∙ length-started c.args.image.now c.args.inputs.now in
@@ -36,7 +36,7 @@ harts-preserved g c =
     record {
       count = count;
       low = omega (arith, count, here, len);
-      are = first_of_more c.in_ok-code.code.section w c.harts.steps.items c.push.new.self.items c.harts.hart-index _ c.harts.invariant.count
+      are = first_of_more c.args.code.now.section w c.harts.steps.items c.push.new.self.items c.harts.hart-index _ c.harts.invariant.count
           (c.steps_of_hart.ensures w c.harts.hart-index at code_is) c.harts.invariant.are c.in_ok-push.ensures.items;
     }
 
@@ -49,7 +49,3 @@ returns-clause-count g c =
     let count = c.harts.invariant.count in
     let low = c.harts.invariant.low in
     omega (arith, len, past, count, low)
-
-pub returns-clause-are : goal.returns-clause-are
-returns-clause-are g c =
-    subst (λ s. AreFirst s (started c.args.image.now c.args.inputs.now) c.harts.steps.items) c.in_ok-code.ensures.section c.harts.invariant.are

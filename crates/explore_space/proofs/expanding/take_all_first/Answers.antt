@@ -1,6 +1,5 @@
-use Rattle.std.proofs.Common.{◌<◌, cond, List, [], ◌++◌, length, refl, ap, sym, ◌∙◌, arith}
+use Rattle.std.proofs.Common.{cond, List, [], ◌++◌, length, refl, ap, sym, ◌∙◌, arith}
 use Rattle.std.proofs.lemmas.List.{append_assoc, append-nil}
-use Rattle.mem_store.specs.Memory.{Memory}
 use Rattle.hart_local.specs.CodeMemory.{code_in}
 use Rattle.hart_local.specs.LocalRuns.{plain_choices}
 use Rattle.machine.specs.Chosen.{is_chosen}

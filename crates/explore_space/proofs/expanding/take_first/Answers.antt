@@ -1,12 +1,11 @@
-use Rattle.std.proofs.Common.{false, true, List, [], ◌++◌, ap, sym, ◌∙◌}
+use Rattle.std.proofs.Common.{false, true, ◌++◌, ap, sym, ◌∙◌}
 use Rattle.std.proofs.lemmas.List.{append-nil}
 use Rattle.mem_store.specs.Memory.{Memory}
 use Rattle.hart_step.specs.Hart.{hart_of}
 use Rattle.hart_local.specs.LocalRuns.{plain_choices}
 use Rattle.machine.specs.State.{state}
-use Rattle.machine.specs.declared.choice.Choice.{Choice}
 use Rattle.explore_space.proofs.BeginLemmas.{begun_by_state, first_by_state}
-use Rattle.explore_space.proofs.TurnLists.{plain_more, settles}
+use Rattle.explore_space.proofs.TurnLists.{settles}
 use Rattle.explore_space.proofs.expanding.take_first.Goals as goal
 use Rattle.explore_space.specs.Resting.{at_once, rest_steps, rested}
 
@@ -38,8 +37,7 @@ returns-clause-choices g c =
     let v = hart_of c.hart.result.now in
     let u = hart_of c.settle-count.new.hart in
     let u_is = c.settle-count.ensures.hart ∙ ap (λ (m : Memory). rested c.args.code.now.section m at_once v) c.requires.code in
-    c.in_ok-resize.ensures.items
-    ∙ plain_more c.args.choices.now.items c.args.number c.settle-count.result _ _ (c.len-len.ensures ∙ c.args.choices.now.ok.0) c.args.choices.now.ok.0
+    c.in_ok-push_plain.ensures
     ∙ ap (λ n. c.args.choices.now.items ++ plain_choices c.args.number n)
     (c.settle-count.ensures.steps ∙ ap (λ (m : Memory). rest_steps c.args.code.now.section m at_once v) c.requires.code
     ∙ first_by_state c.args.code.now.section w c.args.number v u c.hart.ensures u_is true (sym c.if-not-runs_outside.false ∙ c.runs_outside.ensures))

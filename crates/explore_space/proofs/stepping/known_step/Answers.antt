@@ -1,4 +1,3 @@
-use Rattle.std.proofs.Common.{ap, sym, ◌∙◌, refl}
 use Rattle.explore_space.proofs.MemoLemmas.{kept_step, step_kept, steps_stay}
 use Rattle.explore_space.proofs.stepping.known_step.Goals as goal
 

@@ -1,7 +1,7 @@
-use Rattle.std.proofs.Common.{◌≡◌, ◌<◌, List, length, Some, refl, ap, sym, ◌∙◌, subst, arith}
+use Rattle.std.proofs.Common.{◌<◌, length, refl, ap, sym, subst, arith}
 use Rattle.std.proofs.lemmas.Option.{slice_get_read}
 use Rattle.std.proofs.lemmas.Result.{IfOk-weaker}
-use Rattle.std.specs.List.{slice_get, slice_index}
+use Rattle.std.specs.List.{slice_index}
 use Rattle.explore_space.specs.Places.{world_of_key}
 use Rattle.explore_space.proofs.KeyLemmas.{id_at}
 use Rattle.explore_space.proofs.OwnLemmas.{key_shows}
