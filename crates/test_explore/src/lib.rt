@@ -12,6 +12,8 @@ mod exit_tests;
 #[cfg(test)]
 mod failing_tests;
 #[cfg(test)]
+mod own_word_tests;
+#[cfg(test)]
 mod section_tests;
 #[cfg(test)]
 mod world_tests;
