@@ -1,13 +1,12 @@
-use Rattle.std.proofs.Common.{◌+◌, ◌*◌, drop, ◌/◌, ◌%◌, ◌^◌, sym, ap, ◌∙◌, arith}
+use Rattle.std.proofs.Common.{◌+◌, drop, ◌/◌, ◌%◌, ◌^◌, sym, ap, ◌∙◌, arith}
 use Rattle.explore_table.specs.Buckets.{hash_from}
 use Rattle.explore_table.proofs.HashLemmas.{hash_more, hash_done}
 use Rattle.explore_table.proofs.hash.bucket_of.Goals as goal
 
 pub words-preserved : goal.words-preserved
 words-preserved c =
-    let more = hash_more c.words.hash c.args.key.now c.words.word-index c.words-test.true in
-    ap (λ w. hash_from ((c.words.hash * 0x9e3779b97f4a7c15 % 2 ^ 64 + w) % 2 ^ 64) (drop (c.words.word-index + 1) c.args.key.now)) c.from.ensures
-    ∙ more ∙ c.words.invariant
+    ap (λ n. hash_from n (drop (c.words.word-index + 1) c.args.key.now)) c.mixed-hash.ensures
+    ∙ hash_more c.words.hash c.args.key.now c.words.word-index c.words-test.true ∙ c.words.invariant
 
 pub returns-clause-bucket : goal.returns-clause-bucket
 returns-clause-bucket c =
