@@ -1,5 +1,5 @@
 -- Cells over words.
-use Rattle.std.proofs.Common.{◌≡◌, ◌≢◌, ℕ, zero, suc, ◌<◌, cond, eqb, Bool, true, false, MatchBool, List, [], ◌∷◌, ◌++◌, set, Some, refl, ap, sym, ◌∙◌, subst, arith, eq-eqb, inl, inr, ◌⊎◌}
+use Rattle.std.proofs.Common.{◌≡◌, ◌≢◌, ℕ, zero, suc, ◌<◌, cond, eqb, List, [], ◌∷◌, set, Some, refl, ap, sym, ◌∙◌, arith, eq-eqb, inl, inr}
 use Rattle.std.proofs.lemmas.Bool.{cases_eq, ne_eqb}
 use Rattle.std.specs.List.{slice_get}
 use Rattle.bank_laws.specs.Banks.{WordBytes, with_word_bytes}
@@ -53,64 +53,3 @@ pub put_there : (base : ℕ → WordBytes) (cells : List Cell) (i a : ℕ) (v : 
     → ((k : ℕ) (c : Cell) → k < i → slice_get cells k ≡ Some c → c.address ≢ a)
     → values_over base (set cells i new) ≡ with_word_bytes (values_over base cells) a v
 put_there base cells i a v cell new there is at has first = λ j x. put_each base cells i a v cell new x there is at has first j
-
-last_each : (base : ℕ → WordBytes) (cells : List Cell) (new : Cell) (x : ℕ)
-    → ((k : ℕ) (c : Cell) → slice_get cells k ≡ Some c → c.address ≢ new.address)
-    → values_over base (cells ++ new ∷ []) x ≡ cond (eqb x new.address) new.bytes (values_over base cells x)
-unfolding values_over
-last_each base [] new x none = elim (cases_eq x new.address) [
-  | inl here ↦ rw (eq-eqb x new.address here) (rw (eq-eqb new.address x (sym here)) refl)
-  | inr off ↦ rw (ne_eqb x new.address off) (rw (ne_eqb new.address x (λ e. off (sym e))) refl)
-]
-last_each base (c ∷ cells) new x none =
-    let rest : values_over base (cells ++ new ∷ []) x ≡ cond (eqb x new.address) new.bytes (values_over base cells x)
-    = last_each base cells new x (λ k d e. none (suc k) d e) in
-    elim (cases_eq c.address x) [
-      | inl here ↦ rw (eq-eqb c.address x here) (rw (ne_eqb x new.address (λ e. none zero c refl (here ∙ e))) refl)
-      | inr off ↦ rw (ne_eqb c.address x off) rest
-    ]
-
--- a cell more
-pub put_last : (base : ℕ → WordBytes) (cells : List Cell) (new : Cell)
-    → ((k : ℕ) (c : Cell) → slice_get cells k ≡ Some c → c.address ≢ new.address)
-    → values_over base (cells ++ new ∷ []) ≡ with_word_bytes (values_over base cells) new.address new.bytes
-put_last base cells new none = λ j x. last_each base cells new x none j
-
--- ---- the same words
-record IsAt (cells : List Cell) (x : ℕ) : Type 0 where
-  pub number : ℕ
-  pub cell : Cell
-  pub there : slice_get cells number ≡ Some cell
-  pub is : cell.address ≡ x
-
--- a word is a cell's or the image's
-at_or_base : (base : ℕ → WordBytes) (cells : List Cell) (x : ℕ) → IsAt cells x ⊎ (values_over base cells x ≡ base x)
-unfolding values_over
-at_or_base base [] x = inr refl
-at_or_base base (c ∷ cells) x = elim (cases_eq c.address x) [
-  | inl here ↦ inl (record { number = 0; cell = c; there = refl; is = here })
-  | inr off ↦ elim (at_or_base base cells x) [
-    | inl later ↦ inl (record { number = suc later.number; cell = later.cell; there = later.there; is = later.is })
-    | inr none ↦ inr (rw (ne_eqb c.address x off) none)
-  ]
-]
-
--- what is the same where the cells of both are is the same everywhere
-pub same_shown : (base : ℕ → WordBytes) (one other : List Cell)
-    → ((k : ℕ) (c : Cell) → slice_get one k ≡ Some c → values_over base one c.address ≡ values_over base other c.address)
-    → ((k : ℕ) (c : Cell) → slice_get other k ≡ Some c → values_over base one c.address ≡ values_over base other c.address)
-    → values_over base one ≡ values_over base other
-same_shown base one other ones others = λ j x. each x j
-  where
-    each : (x : ℕ) → values_over base one x ≡ values_over base other x
-    each x = elim (at_or_base base one x) [
-      | inl at ↦ subst (λ a. values_over base one a ≡ values_over base other a) at.is (ones at.number at.cell at.there)
-      | inr none ↦ elim (at_or_base base other x) [
-        | inl at ↦ subst (λ a. values_over base one a ≡ values_over base other a) at.is (others at.number at.cell at.there)
-        | inr too ↦ none ∙ sym too
-      ]
-    ]
-
-pub by_answer : (b : Bool) (P Q : Type 0) → (b ≡ true → P) → (b ≡ false → Q) → MatchBool b P Q
-by_answer true P Q yes_ no_ = yes_ refl
-by_answer false P Q yes_ no_ = no_ refl

@@ -27,7 +27,7 @@ abbrev pub memory_of : (ℕ → Option ℕ) → (ℕ → ℕ) → Memory
 memory_of g b = record { rights = g; bytes = b }
 
 -- ---- the instruction
-each_below : (n : ℕ) (test : ℕ → Bool) (i : ℕ) → i < n → all_below n test ≡ true → test i ≡ true
+pub each_below : (n : ℕ) (test : ℕ → Bool) (i : ℕ) → i < n → all_below n test ≡ true → test i ≡ true
 each_below zero test i low e = absurd (omega (arith, low))
 each_below (suc n) test i low e =
     let both = and_parts (all_below n test) (test n) e in
@@ -61,7 +61,7 @@ place_in_word pc i aligned low =
     omega (arith, room)
 
 -- bytes are the same in code that no store changes
-shut_same : (g : ℕ → Option ℕ) (b d : ℕ → ℕ) (pc : ℕ) → StayShut g b d → is_unwritable (memory_of g b) pc ≡ true
+pub shut_same : (g : ℕ → Option ℕ) (b d : ℕ → ℕ) (pc : ℕ) → StayShut g b d → is_unwritable (memory_of g b) pc ≡ true
     → SameFour (wrapped d) (wrapped b) pc
 shut_same g b d pc stays fixed i low =
     stays ((pc + i) % 2 ^ 32)
@@ -86,18 +86,18 @@ code_same g b d values pc stays shows aligned may =
         shut_same g b d pc stays (and_no (granted to_execute (around (memory_of g b)) 4 pc) (is_unwritable (memory_of g b) pc) may e) i low
 
 -- ---- the touch
-carried_same : (o : Option Instr) (g : ℕ → Option ℕ) (b d : ℕ → ℕ) (x : Registers) (pc : ℕ)
+pub carried_same : (o : Option Instr) (g : ℕ → Option ℕ) (b d : ℕ → ℕ) (x : Registers) (pc : ℕ)
     → carried_by o (memory_of g b) x pc ≡ carried_by o (memory_of g d) x pc
 carried_same None g b d x pc = refl
 carried_same (Some i) g b d x pc = ap (λ (c : Option Cause). unless_fault c (access_by i x)) (fault_same i g b d x pc)
 
-at_same : (o : Option ℕ) (g : ℕ → Option ℕ) (b d : ℕ → ℕ) (x : Registers) (pc : ℕ)
+pub at_same : (o : Option ℕ) (g : ℕ → Option ℕ) (b d : ℕ → ℕ) (x : Registers) (pc : ℕ)
     → carried_at o (memory_of g b) x pc ≡ carried_at o (memory_of g d) x pc
 at_same None g b d x pc = refl
 at_same (Some word) g b d x pc = carried_same (decoded word) g b d x pc
 
 -- where the fetched word is the same, so is the touch
-fetch_touches : (g : ℕ → Option ℕ) (b d : ℕ → ℕ) (v : HartValue) → fetched (memory_of g b) v.pc ≡ fetched (memory_of g d) v.pc
+pub fetch_touches : (g : ℕ → Option ℕ) (b d : ℕ → ℕ) (v : HartValue) → fetched (memory_of g b) v.pc ≡ fetched (memory_of g d) v.pc
     → touch_of (carried_in Running (memory_of g b) v) ≡ touch_of (carried_in Running (memory_of g d) v)
 fetch_touches g b d v same =
     ap (λ (o : Option ℕ). touch_of (carried_at o (memory_of g b) v.registers v.pc)) same
@@ -150,7 +150,7 @@ alone_kept owners m n h v keeps =
     ∙ alone_same v.state owners h v m.rights m.bytes n.bytes keeps.bytes
 
 -- ---- a hart that is clear, by a table's words
-need_same : (st : HartState) (g : ℕ → Option ℕ) (b d : ℕ → ℕ) (pc : ℕ) → needed_code st (memory_of g b) pc ≡ needed_code st (memory_of g d) pc
+pub need_same : (st : HartState) (g : ℕ → Option ℕ) (b d : ℕ → ℕ) (pc : ℕ) → needed_code st (memory_of g b) pc ≡ needed_code st (memory_of g d) pc
 need_same Running g b d pc = refl
 need_same (Exited status) g b d pc = refl
 need_same (Faulted cause) g b d pc = refl

@@ -1,39 +1,47 @@
 //! Whether cells stand for the same words.
-ghost use Rattle.std.specs.Prelude.{◌≡◌, ℕ, MatchBool, Some, true, false, slice_get};
-ghost use Rattle.explore_sites.specs.Cells.{words_shown, WordsDiffer};
-ghost use Rattle.explore_sites.specs.declared.cell.Cell.{Cell as CellValue};
+ghost use Rattle.std.specs.Prelude.{◌≡◌, MatchBool, true, false};
+ghost use Rattle.image.specs.Image.{ImageValue};
+ghost use Rattle.explore_sites.specs.Cells.{AreCanonical, WordsDiffer, cell_words, cell_word, words_shown};
 
 use crate::cell::Cell;
-use crate::words::word_at;
-use image::Image;
-use std::alloc::Allocator;
 
-fn is_same_word(one: [u8; 4], other: [u8; 4]) -> bool
+// Whether words have the same bytes.
+pub(crate) fn is_same_word(one: [u8; 4], other: [u8; 4]) -> bool
     ensures { MatchBool result (one ≡ other) (one ≡ other → ⊥) }
 {
     one == other
 }
 
-// Whether two lists of cells show the same words wherever a cell of a third one is.
-fn agree_at<A: Allocator>(image: &Image<A>, places: &[Cell], one: &[Cell], other: &[Cell]) -> bool
-    ensures same { result ≡ true → (k : ℕ) (cell : CellValue) → slice_get places.now k ≡ Some cell
-        → words_shown image.now one.now cell.address ≡ words_shown image.now other.now cell.address }
-    ensures differ { result ≡ false
-        → WordsDiffer (words_shown image.now one.now) (words_shown image.now other.now) }
+// Whether cells say the same.
+fn is_same_cell(one: Cell, other: Cell) -> bool
+    ensures { MatchBool result (cell_word one ≡ cell_word other) (cell_word one ≡ cell_word other → ⊥) }
 {
-    'cells: for (at, cell) in places.iter().enumerate() {
-        let shown = word_at(image, one, cell.address);
-        if !is_same_word(shown, word_at(image, other, cell.address)) {
+    one.address == other.address && is_same_word(one.bytes, other.bytes)
+}
+
+// Whether lists have the same cells in the same order.
+fn are_same(one: &[Cell], other: &[Cell]) -> bool
+    ensures { MatchBool result (cell_words one.now ≡ cell_words other.now)
+        (cell_words one.now ≡ cell_words other.now → ⊥) }
+{
+    if one.len() != other.len() {
+        return false;
+    }
+    'cells: for (at, cell) in one.iter().enumerate() {
+        if !is_same_cell(*cell, other[at]) {
             return false;
         }
     }
     true
 }
 
-/// Whether two lists of cells show the same words.
-pub fn show_same<A: Allocator>(image: &Image<A>, one: &[Cell], other: &[Cell]) -> bool
-    ensures { MatchBool result (words_shown image.now one.now ≡ words_shown image.now other.now)
-        (WordsDiffer (words_shown image.now one.now) (words_shown image.now other.now)) }
+/// Whether two lists of canonical cells show the same words.
+pub fn show_same(one: &[Cell], other: &[Cell]) -> bool
+    ensures same { result ≡ true
+        → (image : ImageValue) → words_shown image one.now ≡ words_shown image other.now }
+    ensures differ { result ≡ false
+        → (image : ImageValue) → AreCanonical image one.now → AreCanonical image other.now
+        → WordsDiffer (words_shown image one.now) (words_shown image other.now) }
 {
-    agree_at(image, one, one, other) && agree_at(image, other, one, other)
+    are_same(one, other)
 }

@@ -6,7 +6,7 @@ ghost use Rattle.hart_step.specs.Hart.{hart_of};
 ghost use Rattle.bank_laws.specs.Runs.{word_found};
 ghost use Rattle.bank_laws.specs.Table.{table};
 ghost use Rattle.bank_step.specs.Told.{told_word};
-ghost use Rattle.explore_sites.specs.Cells.{words_shown};
+ghost use Rattle.explore_sites.specs.Cells.{AreCanonical, words_shown};
 ghost use Rattle.explore_sites.specs.Sites.{StepsTo};
 
 use crate::cell::Cell;
@@ -44,6 +44,7 @@ pub fn step_site<A: Allocator>(
     ensures steps { OnOk result (StepsTo (table (image_memory image.now)) id refuse (hart_of hart.old) (hart_of hart.new)
         (words_shown image.now cells.old.items) (words_shown image.now cells.new.items) (mark_at marks.old) (mark_at marks.new)) }
     ensures len { length marks.new ≡ length marks.old }
+    ensures canonical { OnOk result (AreCanonical image.now cells.old.items → AreCanonical image.now cells.new.items) }
 {
     let code = told(image, cells, needed_word(hart, image));
     let Some(touch) = planned_touch(hart, image, code) else {
@@ -70,13 +71,13 @@ pub fn step_site<A: Allocator>(
         }
         AccessKind::Store | AccessKind::Amo => {
             let bytes = settle_store(hart, image, code, touched, false);
-            put_word(cells, touch.word, bytes)?;
+            put_word(image, cells, touch.word, bytes)?;
             end_marks(marks, id, touch.word);
         }
         AccessKind::StoreConditional => {
             if !refuse && holds_mark(marks, id, touch.word) {
                 let bytes = settle_store(hart, image, code, touched, true);
-                put_word(cells, touch.word, bytes)?;
+                put_word(image, cells, touch.word, bytes)?;
                 end_marks(marks, id, touch.word);
             } else {
                 settle(hart, image, words, false);

@@ -1,16 +1,17 @@
 //! Words read and written.
-ghost use Rattle.std.specs.Prelude.{◌≡◌, ◌≢◌, ◌<◌, ◌%◌, ℕ, IfSome, IfNone, OnOk, Some, length, slice_get};
-ghost use Rattle.image.specs.Image.{span_of};
+ghost use Rattle.std.specs.Prelude.{◌≡◌, ◌≢◌, ◌<◌, ◌≤◌, ◌%◌, ℕ, IfSome, IfNone, OnOk, Some, length, slice_get};
+ghost use Rattle.image.specs.Image.{ImageValue, span_of};
 ghost use Rattle.image.specs.Spans.{has_address};
 ghost use Rattle.mem_store.specs.Image.{image_memory, segments_memory};
 ghost use Rattle.mem_store.specs.Memory.{Memory, to_load, grants, granted, number_at};
 ghost use Rattle.bank_laws.specs.Banks.{WordBytes, with_word_bytes};
 ghost use Rattle.bank_laws.specs.Words.{bytes_at};
 ghost use Rattle.property_judge.specs.Property.{word_read};
-ghost use Rattle.explore_sites.specs.Cells.{values_over, words_shown};
+ghost use Rattle.explore_sites.specs.Cells.{AreCanonical, image_words, values_over, words_shown};
 ghost use Rattle.explore_sites.specs.declared.cell.Cell.{Cell as CellValue};
 
 use crate::cell::Cell;
+use crate::sameness::is_same_word;
 use bank_step::bytes_at;
 use image::{Image, Rights, Segment};
 use std::alloc::{AllocError, Allocator};
@@ -32,13 +33,20 @@ fn find(cells: &[Cell], address: u32) -> Option<usize>
     None
 }
 
+// The image's own bytes of a word.
+fn own_word<A: Allocator>(image: &Image<A>, address: u32) -> [u8; 4]
+    ensures { result ≡ image_words image.now address }
+{
+    bytes_at(image.segments(), address)
+}
+
 /// The bytes of a word.
 pub fn word_at<A: Allocator>(image: &Image<A>, cells: &[Cell], address: u32) -> [u8; 4]
     ensures { result ≡ words_shown image.now cells.now address }
 {
     match find(cells, address) {
         Some(at) => cells[at].bytes,
-        None => bytes_at(image.segments(), address),
+        None => own_word(image, address),
     }
 }
 
@@ -98,21 +106,70 @@ pub fn word_read<A: Allocator>(image: &Image<A>, cells: &[Cell], address: u32) -
     number_of(word_at(image, cells, address))
 }
 
-/// Gives a word new bytes.
-pub fn put_word<A: Allocator>(
+// The first place whose cell's address isn't below an address, else the end.
+fn place_of(cells: &[Cell], address: u32) -> usize
+    ensures within { result ≤ length cells.now }
+    ensures below { (k : ℕ) (cell : CellValue) → k < result → slice_get cells.now k ≡ Some cell
+        → cell.address < address }
+    ensures here { (cell : CellValue) → slice_get cells.now result ≡ Some cell → address ≤ cell.address }
+{
+    'cells: for (at, cell) in cells.iter().enumerate() {
+        if address <= cell.address {
+            return at;
+        }
+    }
+    cells.len()
+}
+
+// Gives a word the bytes that it has without cells: removes each cell at its address.
+fn remove_at<A: Allocator>(cells: &mut Vec<Cell, A>, address: u32)
+    ensures words { (base : ℕ → WordBytes)
+        → values_over base cells.new.items ≡ with_word_bytes (values_over base cells.old.items) address (base address) }
+    ensures canonical { (image : ImageValue) → AreCanonical image cells.old.items → AreCanonical image cells.new.items }
+{
+    cells.retain(|cell| cell.address != address);
+}
+
+// Gives a word other bytes than the image's own, by a cell.
+fn put_cell<A: Allocator>(
     cells: &mut Vec<Cell, A>,
     address: u32,
     bytes: [u8; 4],
 ) -> Result<(), AllocError>
     requires { address % 4 ≡ 0 }
-    ensures { OnOk result ((base : ℕ → WordBytes)
+    ensures words { OnOk result ((base : ℕ → WordBytes)
         → values_over base cells.new.items ≡ with_word_bytes (values_over base cells.old.items) address bytes) }
+    ensures canonical { OnOk result ((image : ImageValue) → bytes ≢ image_words image address
+        → AreCanonical image cells.old.items → AreCanonical image cells.new.items) }
 {
     match find(cells, address) {
         Some(at) => {
             cells[at].bytes = bytes;
         }
-        None => cells.push(Cell { address, bytes })?,
+        None => {
+            let place = place_of(cells, address);
+            cells.insert(place, Cell { address, bytes })?;
+        }
+    }
+    Ok(())
+}
+
+/// Gives a word new bytes. Canonical cells stay so. Only want of memory refuses it.
+pub fn put_word<A: Allocator>(
+    image: &Image<A>,
+    cells: &mut Vec<Cell, A>,
+    address: u32,
+    bytes: [u8; 4],
+) -> Result<(), AllocError>
+    requires { address % 4 ≡ 0 }
+    ensures words { OnOk result (words_shown image.now cells.new.items
+        ≡ with_word_bytes (words_shown image.now cells.old.items) address bytes) }
+    ensures canonical { OnOk result (AreCanonical image.now cells.old.items → AreCanonical image.now cells.new.items) }
+{
+    if is_same_word(bytes, own_word(image, address)) {
+        remove_at(cells, address);
+    } else {
+        put_cell(cells, address, bytes)?;
     }
     Ok(())
 }

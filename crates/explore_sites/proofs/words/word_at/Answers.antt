@@ -1,7 +1,5 @@
-use Rattle.std.proofs.Common.{ap, sym, ◌∙◌}
+use Rattle.std.proofs.Common.{sym, ◌∙◌}
 use Rattle.std.proofs.lemmas.Option.{slice_get-get_or}
-use Rattle.mem_store.specs.Image.{segments_memory}
-use Rattle.bank_laws.specs.Words.{bytes_at}
 use Rattle.explore_sites.specs.Cells.{image_words}
 use Rattle.explore_sites.proofs.CellLemmas.{value_there, value_else}
 use Rattle.explore_sites.proofs.words.word_at.Goals as goal
@@ -14,5 +12,4 @@ returns-in-Some g c =
 
 pub returns-in-None : goal.returns-in-None
 returns-in-None g c =
-    c.bytes_at.ensures ∙ ap (λ segments. bytes_at (segments_memory segments).bytes c.args.address) c.segments.ensures.value
-    ∙ sym (value_else (image_words c.args.image.now) c.args.cells.now c.args.address c.in-None.ensures.none)
+    c.own_word.ensures ∙ sym (value_else (image_words c.args.image.now) c.args.cells.now c.args.address c.in-None.ensures.none)
