@@ -93,7 +93,7 @@ module _ {Z : Type 0} (habits : Habits) (image : ImageValue) (n : ℕ) (harts : 
         ∙ hart_at image n harts shareds l is_l i low))
 
     shared_same : slice_index k n ≡ slice_index l n
-    shared_same = same_shared image shareds is_k.once.1 (slice_index k n) (slice_index l n) is_k.shared is_l.shared
+    shared_same = same_shared image shareds is_k.once.1.0 (slice_index k n) (slice_index l n) is_k.shared is_l.shared
         (ap (λ (p : Place). p.world.reserved) same)
         (λ x at. is_k.words x at ∙ ap (λ (p : Place). bytes_at p.world.memory.bytes x) same ∙ sym (is_l.words x at))
 

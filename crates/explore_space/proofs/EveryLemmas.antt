@@ -1,5 +1,5 @@
 -- From places to runs.
-use Rattle.std.proofs.Common.{◌≡◌, ℕ, zero, suc, ◌%◌, ◌<◌, ◌≤◌, Bool, true, false, ◌||◌, List, [], ◌∷◌, ◌++◌, length, Option, Some, None, refl, ap, sym, ◌∙◌, subst, arith, inl, inr}
+use Rattle.std.proofs.Common.{◌≡◌, ℕ, zero, suc, ◌%◌, ◌<◌, ◌≤◌, Bool, true, false, ◌||◌, List, [], ◌∷◌, ◌++◌, length, Option, Some, None, refl, ap, sym, ◌∙◌, subst, arith, inl, inr, true≢false}
 use Rattle.std.proofs.lemmas.Bool.{cases_lt, ne_eqb}
 use Rattle.std.proofs.lemmas.List.Elements.{All-head, All-tail, All-append, All-cons, Contains-append_cases, Contains-append_left, Contains-append_right}
 use Rattle.std.specs.List.{Contains, slice_index_or}
@@ -262,6 +262,23 @@ module _ (rule : Option Kind) (always : Option Always) (section : Option Section
 
   pub bad_clear : (list : List Choice) → LeadsToBad turns_of first stops list → AreClear (clear_by_habit habits) turns_of first (length list)
   bad_clear list bad turns c all there less = clear_there turns c there (bad.shortest turns all less)
+
+  -- where no word has an owner nobody strays, so that such turns fail
+  pub unowned_fails : image.entry % 4 ≡ 0 → IsUnowned always (owners_in words) → words ≡ [] → (list choices : List Choice)
+      → LeadsToBad turns_of first stops list → choices ≡ choices_from_start habits (started image inputs) list
+      → run_fails rule always section image inputs choices ≡ true
+  unowned_fails entry unowned none list choices bad is =
+      let p = place_reached first list in
+      ap (run_fails rule always section image inputs) is
+      ∙ sym (fails_alike rule always habits refusals image inputs entry unowned list bad.meant
+      (clear_turns habits turns_of first list (length list) bad.meant (omega arith) (bad_clear list bad)))
+      ∙ or_none (fails_there rule always section inputs p) (strays_from words p.world (length inputs))
+      (ap (λ ws. strays_from ws p.world (length inputs)) none) bad.ends
+    where
+      or_none : (a b : Bool) → b ≡ false → a || b ≡ true → a ≡ true
+      or_none true b no_ e = refl
+      or_none false true no_ e = absurd (true≢false no_)
+      or_none false false no_ e = e
 
 -- the same by equal parts
 pub moved : {Z : Type 0} (P : List Choice → ImageValue → List ℕ → Option Kind → Option Always → LocalCode Z → Found Z → Type 0)

@@ -17,7 +17,8 @@ use Rattle.machine.specs.Start.{first_harts, started}
 use Rattle.machine.proofs.RunLaws.{run-aligned, length-started}
 use Rattle.bank_laws.specs.Words.{bytes_at}
 use Rattle.explore_table.proofs.ListLemmas.{get_there}
-use Rattle.explore_sites.specs.Cells.{words_shown, values_over}
+use Rattle.explore_sites.specs.Cells.{AreCanonical, words_shown, values_over}
+use Rattle.explore_sites.proofs.CanonLemmas.{no_cells_canonical}
 use Rattle.explore_laws.specs.Places.{Place, place_begun}
 use Rattle.explore_space.specs.Places.{hart_in, hart_numbered, cells_in, marks_in, memory_over, world_of_key, place_of_key, HartsDiffer, IsKey, IsKeyOf}
 use Rattle.explore_space.specs.declared.shared.Shared.{Shared}
@@ -129,6 +130,10 @@ module _ {Z : Type 0} (image : ImageValue) (inputs : List ℕ) (begin : List Har
       place_of : World → (ℕ → Bool) → Place
       place_of x y = record { stride = stride_by_habit habits; world = x; chosen = y }
 
+  only_one : (k : ℕ) (t : Shared Z) → slice_get (s ∷ []) k ≡ Some t → s ≡ t
+  only_one zero t e = same_Some s t e
+  only_one (suc k) t e = absurd (cc)
+
   first_key : IsKey image (length inputs) begin shareds row
   unfolding run values_over
   first_key = record {
@@ -141,7 +146,11 @@ module _ {Z : Type 0} (image : ImageValue) (inputs : List ℕ) (begin : List Har
     flags = λ k. (let none = flag_none k in omega (arith, none));
     once = (
       harts_begin_apart image inputs begin begin_is,
-      λ i j d low inside. absurd (let a = ap length shareds_are in omega (arith, a, low, inside)),
+      (
+        λ i j d low inside. absurd (let a = ap length shareds_are in omega (arith, a, low, inside)),
+        λ k t e. subst (λ (x : Shared Z). AreCanonical image x.cells.items) (only_one k t (sym (ap (λ ss. slice_get ss k) shareds_are) ∙ e))
+            (subst (AreCanonical image) (sym no_cells) (no_cells_canonical image)),
+      ),
     );
     keeps = subst (Keeps (image_memory image)) (sym memory_there) (keeps-same (image_memory image));
     words = λ x at. ap (λ cells. words_shown image cells x) no_cells_there ∙ ap (λ (y : Memory). bytes_at y.bytes x) (sym memory_there);

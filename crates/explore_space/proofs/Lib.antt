@@ -11,13 +11,14 @@ pub mod StandLemmas
 pub mod WorldLemmas
 pub mod KeyLemmas
 pub mod SettledKeys
-pub mod WayKeys
 pub mod SettlingLemmas
 pub mod KeepLemmas
 pub mod MemoLemmas
 pub mod FirstLemmas
 pub mod DifferLemmas
 pub mod SameLemmas
+pub mod HashLemmas
+pub mod KeptLemmas
 pub mod MarkLemmas
 pub mod TurnLists
 pub mod PassLemmas

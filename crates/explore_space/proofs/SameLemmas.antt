@@ -1,5 +1,5 @@
 -- Lists that are told apart, and lists in which no two elements are the same.
-use Rattle.std.proofs.Common.{◌≡◌, ◌≢◌, ℕ, ◌+◌, ◌<◌, ◌≤◌, Bool, true, false, List, [], ◌∷◌, ◌++◌, length, get_or, nat_eq, MatchBool, Option, Some, None, refl, ap, sym, ◌∙◌, subst, arith, inl, inr}
+use Rattle.std.proofs.Common.{◌≡◌, ◌≢◌, ℕ, ◌+◌, ◌<◌, ◌≤◌, Bool, true, false, List, [], ◌∷◌, ◌++◌, length, get_or, nat_eq, if◌then◌else◌, MatchBool, Option, Some, None, refl, ap, sym, ◌∙◌, subst, arith, inl, inr}
 use Rattle.std.specs.Bool.{Decides}
 use Rattle.std.specs.List.{AllPairs, slice_get}
 use Rattle.std.specs.Option.{option_eq}
@@ -56,5 +56,7 @@ apart_more R xs ys x n pushed all each apart =
     subst (AllPairs R) (sym pushed) (all_pairs_push R xs x apart
     (λ k d low. each.each k (get_or xs k d) (omega (arith, low, all)) (slice_get-get_or xs k d low)))
 
-pub pushed_first : {X : Type 0} (xs ys : List X) (x : X) → xs ≡ [] → ys ≡ xs ++ x ∷ [] → ys ≡ x ∷ []
-pushed_first xs ys x none pushed = pushed ∙ ap (λ zs. zs ++ x ∷ []) none
+pub pushed_first : {X : Type 0} (xs ys : List X) (x : X) (pushed : Bool) → pushed ≡ true → xs ≡ []
+    → ys ≡ (if pushed then xs ++ x ∷ [] else xs) → ys ≡ x ∷ []
+pushed_first xs ys x true yes_ none items = items ∙ ap (λ zs. zs ++ x ∷ []) none
+pushed_first xs ys x false no_ none items = absurd (cc)

@@ -1,24 +1,22 @@
--- The world of a key after a step.
-use Rattle.std.proofs.Common.{◌≡◌, ◌≢◌, ℕ, zero, suc, ◌+◌, ◌*◌, ◌%◌, ◌<◌, Bool, ◌||◌, ◌==◌, List, [], ◌∷◌, ◌++◌, length, map, take, set, Option, Some, refl, ap, sym, ◌∙◌, arith, inl, inr, eq-eqb}
+-- Worlds by their words, and what a turn changes in a key and in its world's harts.
+use Rattle.std.proofs.Common.{◌≡◌, ◌≢◌, ℕ, zero, suc, ◌+◌, ◌*◌, ◌%◌, ◌<◌, ◌≤◌, false, ◌||◌, ◌==◌, List, [], ◌∷◌, ◌++◌, length, map, take, set, Option, Some, None, refl, ap, sym, ◌∙◌, subst, arith, inl, inr, eq-eqb}
 use Rattle.std.proofs.lemmas.Bool.{cases_eq, ne_eqb}
-use Rattle.std.proofs.lemmas.List.{length-set, get_or-set_same, get_or-set_other, map-set, take-set-le}
-use Rattle.std.proofs.lemmas.Option.{slice_get-map}
+use Rattle.std.proofs.lemmas.List.{length-set, get_or-set_same, get_or-set_other, set-set, set-get_or, take-set-le}
+use Rattle.std.proofs.lemmas.Option.{get_or_from_slice_get}
 use Rattle.std.specs.List.{slice_get, slice_index}
-use Rattle.std.specs.Option.{option_map}
 use Rattle.mem_store.specs.Memory.{Memory}
-use Rattle.hart_reservations.specs.Marks.{Marks, word_of}
+use Rattle.hart_reservations.specs.Marks.{word_of}
 use Rattle.hart_step.specs.Hart.{HartValue}
-use Rattle.hart_step.specs.Effect.{Site, site}
+use Rattle.hart_step.specs.Effect.{site}
 use Rattle.hart_step.specs.Step.{stepped}
-use Rattle.hart_step.specs.Laws.{Keeps}
-use Rattle.hart_step.proofs.Kept.{stepped-keeps}
-use Rattle.machine.specs.World.{World, placed, step_of, step}
+use Rattle.hart_local.specs.LocalRuns.{plain_choices}
+use Rattle.machine.specs.World.{World, step_of, step, run}
 use Rattle.machine.specs.declared.choice.Choice.{Choice}
 use Rattle.bank_laws.specs.Banks.{WordBytes}
 use Rattle.bank_laws.specs.Words.{bytes_at}
 use Rattle.bank_laws.proofs.WordLemmas.{index_at}
-use Rattle.explore_sites.specs.Sites.{ShowsOne}
-use Rattle.explore_space.specs.Places.{memory_over}
+use Rattle.explore_space.specs.Habits.{Habits, stride_by_habit}
+use Rattle.explore_space.specs.Places.{memory_over, world_turned}
 
 -- ---- memory from its words
 word_and_rest : (y : ℕ) → word_of y + y % 4 ≡ y
@@ -60,63 +58,34 @@ map_same f g [] same = refl
 map_same {Y} f g (x ∷ xs) same =
     ap (λ (y : Y). y ∷ map f xs) (same zero x refl) ∙ ap (λ (ys : List Y). g x ∷ ys) (map_same f g xs (λ k i e. same (suc k) i e))
 
--- ---- one step
-module _ (m : Memory) (n number id shared_id old : ℕ) (key next : List ℕ) (f g : ℕ → HartValue) (values new_values : ℕ → WordBytes)
-    (r new_r : Marks) (refuse : Bool) (low : number < n) (long : length key ≡ 2 * n + 1)
-    (next_is : next ≡ set (set (set key number id) n shared_id) (n + 1 + number) 1)
-    (there : slice_get (take n key) number ≡ Some old)
-    (same : (k i : ℕ) → slice_get (take n key) k ≡ Some i → g i ≡ f i) where
-  w : World
-  w = record { harts = map f (take n key); memory = memory_over m values; reserved = r }
-
-  s : Site
-  s = site (f old) (memory_over m values) r
-
-  c : Choice
-  c = record { hart = number; refuse = refuse }
-
+-- ---- a key with another hart at a number, which is marked as chosen, and other things shared
+module _ (n number id shared_id : ℕ) (key next : List ℕ) (low : number < n) (long : length key ≡ 2 * n + 1)
+    (next_is : next ≡ set (set (set key number id) n shared_id) (n + 1 + number) 1) where
   pub taken : take n next ≡ set (take n key) number id
   taken = ap (take n) next_is ∙ take-set-le n (set (set key number id) n shared_id) (n + 1 + number) 1 (omega arith)
       ∙ take-set-le n (set key number id) n shared_id (omega arith) ∙ take-set n key number id
 
-  pub harts_after : (new_h : HartValue) → g id ≡ new_h → map g (take n next) ≡ set (map f (take n key)) number new_h
-  harts_after new_h is = ap (map g) taken ∙ map-set g (take n key) number id
-      ∙ ap (λ (hs : List HartValue). set hs number (g id)) (map_same g f (take n key) same)
-      ∙ ap (set (map f (take n key)) number) is
+  pub shared_after : slice_index next n ≡ shared_id
+  shared_after = ap (λ (xs : List ℕ). slice_index xs n) next_is
+      ∙ get_or-set_other (set (set key number id) n shared_id) (n + 1 + number) n 1 0 (λ e. omega (arith, e))
+      ∙ get_or-set_same (set key number id) n shared_id 0 (let a = length-set key number id in omega (arith, a, long))
 
-  here : slice_get (map f (take n key)) number ≡ Some (f old)
-  here = slice_get-map f (take n key) number ∙ ap (option_map f) there
-
-  step_is : step w c ≡ placed w number (stepped number refuse s)
-  unfolding step w c s
-  step_is = ap (step_of w c) here
-
-  pub world_after : Keeps m (memory_over m values) → ShowsOne (g id) new_values new_r (stepped number refuse (site (f old) (memory_over m values) r))
-      → ◌≡◌ {A = World} (record { harts = map g (take n next); memory = memory_over m new_values; reserved = new_r })
-      (step (record { harts = map f (take n key); memory = memory_over m values; reserved = r }) (record { hart = number; refuse = refuse }))
-  unfolding w c s memory_over
-  world_after keeps shows =
-      let t : Site = stepped number refuse s in
-      let rights : t.memory.rights ≡ m.rights = (stepped-keeps number refuse s).rights in
-      let memory : memory_over m new_values ≡ t.memory = memory_is m t.memory new_values rights shows.words in
-      ap (λ (hs : List HartValue). world_of hs (memory_over m new_values) new_r) (harts_after t.hart shows.hart)
-      ∙ ap (λ (x : Memory). world_of (set (map f (take n key)) number t.hart) x new_r) memory
-      ∙ ap (λ (x : Marks). world_of (set (map f (take n key)) number t.hart) t.memory x) shows.marks
-      ∙ sym step_is
-    where
-      world_of : List HartValue → Memory → Marks → World
-      world_of hs x y = record { harts = hs; memory = x; reserved = y }
-
-  pub marked : slice_index next (n + 1 + number) ≡ 1
+  marked : slice_index next (n + 1 + number) ≡ 1
   marked = ap (λ (xs : List ℕ). slice_index xs (n + 1 + number)) next_is
       ∙ get_or-set_same (set (set key number id) n shared_id) (n + 1 + number) 1 0
       (let a = length-set (set key number id) n shared_id in let b = length-set key number id in omega (arith, a, b, long, low))
 
-  pub unmarked : (k : ℕ) → number ≢ k → slice_index next (n + 1 + k) ≡ slice_index key (n + 1 + k)
+  unmarked : (k : ℕ) → number ≢ k → slice_index next (n + 1 + k) ≡ slice_index key (n + 1 + k)
   unmarked k other = ap (λ (xs : List ℕ). slice_index xs (n + 1 + k)) next_is
       ∙ get_or-set_other (set (set key number id) n shared_id) (n + 1 + number) (n + 1 + k) 1 0 (λ e. other (omega (arith, e)))
       ∙ get_or-set_other (set key number id) n (n + 1 + k) shared_id 0 (λ e. omega (arith, e))
       ∙ get_or-set_other key number (n + 1 + k) id 0 (λ e. omega (arith, e, low))
+
+  pub flags_after : ((k : ℕ) → slice_index key (n + 1 + k) ≤ 1) → (k : ℕ) → slice_index next (n + 1 + k) ≤ 1
+  flags_after flags k = elim (cases_eq number k) [
+    | inl here ↦ subst (λ j. slice_index next (n + 1 + j) ≤ 1) here (omega (arith, marked))
+    | inr other ↦ (let a = unmarked k other in let b = flags k in omega (arith, a, b))
+  ]
 
   pub chosen_after : (k : ℕ) → (slice_index next (n + 1 + k) == 1) ≡ ((number == k) || (slice_index key (n + 1 + k) == 1))
   chosen_after k = elim (cases_eq number k) [
@@ -125,11 +94,22 @@ module _ (m : Memory) (n number id shared_id old : ℕ) (key next : List ℕ) (f
     | inr other ↦ ap (λ v. v == 1) (unmarked k other) ∙ ap (λ b. b || (slice_index key (n + 1 + k) == 1)) (sym (ne_eqb number k other))
   ]
 
-  -- the memory that the step leaves
-  pub memory_after : Keeps m (memory_over m values) → ShowsOne (g id) new_values new_r (stepped number refuse (site (f old) (memory_over m values) r))
-      → memory_over m new_values ≡ (stepped number refuse (site (f old) (memory_over m values) r)).memory
-  unfolding s memory_over
-  memory_after keeps shows =
-      let t : Site = stepped number refuse s in
-      let rights : t.memory.rights ≡ m.rights = (stepped-keeps number refuse s).rights in
-      memory_is m t.memory new_values rights shows.words
+-- ---- a turn changes its hart alone
+step_of_sets : (w : World) (c : Choice) (o : Option HartValue) (v : HartValue) → set (step_of w c o).harts c.hart v ≡ set w.harts c.hart v
+step_of_sets w c None v = refl
+step_of_sets w c (Some u) v = set-set w.harts c.hart (stepped c.hart c.refuse (site u w.memory w.reserved)).hart v
+
+step_sets : (w : World) (c : Choice) (v : HartValue) → set (step w c).harts c.hart v ≡ set w.harts c.hart v
+unfolding step
+step_sets w c v = step_of_sets w c (slice_get w.harts c.hart) v
+
+run_sets : (h n : ℕ) (w : World) (v : HartValue) → slice_get (run w (plain_choices h n)).harts h ≡ Some v
+    → (run w (plain_choices h n)).harts ≡ set w.harts h v
+unfolding run
+run_sets h zero w v there = sym (set-get_or w.harts h v) ∙ ap (set w.harts h) (get_or_from_slice_get w.harts h v v there)
+run_sets h (suc n) w v there =
+    let c : Choice = record { hart = h; refuse = false } in run_sets h n (step w c) v there ∙ step_sets w c v
+
+pub turn_sets : (habits : Habits) (w : World) (c : Choice) (v : HartValue) → slice_get (world_turned habits w c).harts c.hart ≡ Some v
+    → (world_turned habits w c).harts ≡ set w.harts c.hart v
+turn_sets habits w c v there = run_sets c.hart (stride_by_habit habits (step w c) c.hart) (step w c) v there ∙ step_sets w c v

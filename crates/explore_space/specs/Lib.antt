@@ -1,6 +1,7 @@
 pub mod Resting
 pub mod Habits
 pub mod Places
+pub mod Hashes
 pub mod Begun
 pub mod Memo
 pub mod Failing

@@ -10,15 +10,15 @@ use Rattle.hart_step.specs.Hart.{HartValue, hart_of}
 use Rattle.hart_step.specs.Laws.{Keeps, IsAligned}
 use Rattle.hart_step.specs.declared.hart.Hart.{Hart}
 use Rattle.hart_step.specs.declared.hart.HartState.TheVariants.{Running}
-use Rattle.machine.specs.World.{World}
+use Rattle.machine.specs.World.{World, step}
 use Rattle.machine.specs.declared.choice.Choice.{Choice}
 use Rattle.bank_laws.specs.Banks.{WordBytes}
-use Rattle.bank_laws.specs.Table.{table}
 use Rattle.bank_laws.specs.Words.{bytes_at}
-use Rattle.explore_sites.specs.Cells.{words_shown, WordsDiffer}
-use Rattle.explore_sites.specs.Sites.{StepsTo}
+use Rattle.explore_sites.specs.Cells.{AreCanonical, words_shown, WordsDiffer}
 use Rattle.explore_sites.specs.declared.cell.Cell.{Cell}
+use Rattle.explore_laws.specs.OwnSteps.{steps_in_turn}
 use Rattle.explore_laws.specs.Places.{Place}
+use Rattle.explore_laws.specs.Settling.{world_settled}
 use Rattle.explore_space.specs.Habits.{Habits, stride_by_habit}
 use Rattle.explore_space.specs.declared.shared.Shared.{Shared}
 
@@ -59,13 +59,6 @@ place_of_key habits image n harts shareds key = record {
   chosen = λ k. slice_index key (n + 1 + k) == 1;
 }
 
--- a choice leads from a hart and what it shares to others, all by their numbers
-abbrev pub PartsStep : {Z : Type 0} → ImageValue → Choice → List Hart → List (Shared Z) → ℕ → ℕ → List Hart → List (Shared Z) → ℕ → ℕ → Type 0
-PartsStep image c harts shareds hart shared more_harts more_shareds new_hart new_shared =
-    StepsTo (table (image_memory image)) c.hart c.refuse (hart_numbered harts hart) (hart_numbered more_harts new_hart)
-    (words_shown image (cells_in (slice_get shareds shared))) (words_shown image (cells_in (slice_get more_shareds new_shared)))
-    (marks_in (slice_get shareds shared)) (marks_in (slice_get more_shareds new_shared))
-
 -- kept harts differ
 abbrev pub HartsDiffer : List Hart → Type 0
 HartsDiffer harts = AllPairs (λ a b. hart_of a ≢ hart_of b) harts
@@ -75,9 +68,14 @@ abbrev pub AreUnlike : {Z : Type 0} → ImageValue → Shared Z → Shared Z →
 AreUnlike image a b =
     mark_at a.marks ≡ mark_at b.marks → WordsDiffer (words_shown image a.cells.items) (words_shown image b.cells.items)
 
--- kept harts differ, and so do the parts that they share
+-- kept parts that harts share differ, and their cells are canonical
+abbrev pub SharedsDiffer : {Z : Type 0} → ImageValue → List (Shared Z) → Type 0
+SharedsDiffer {Z} image shareds = AllPairs (AreUnlike image) shareds
+    × ((k : ℕ) (s : Shared Z) → slice_get shareds k ≡ Some s → AreCanonical image s.cells.items)
+
+-- each hart is kept once, and so is what they share
 abbrev pub KeptOnce : {Z : Type 0} → ImageValue → List Hart → List (Shared Z) → Type 0
-KeptOnce image harts shareds = HartsDiffer harts × AllPairs (AreUnlike image) shareds
+KeptOnce image harts shareds = HartsDiffer harts × SharedsDiffer image shareds
 
 -- a row of words is a key
 pub record IsKey {Z : Type 0} (image : ImageValue) (n : ℕ) (known : List Hart) (shareds : List (Shared Z)) (key : List ℕ) : Type 0 where
@@ -102,9 +100,36 @@ KeysStay habits image n harts shareds more_harts more_shareds = (k : List ℕ) �
     → IsKeyOf habits image n more_harts more_shareds k (place_of_key habits image n harts shareds k)
 
 -- hart h of a world is this one, and the words and reservations there are these
-pub record ShowsHart {Z : Type 0} (image : ImageValue) (w : World) (h : ℕ) (v : HartValue) (shared : Shared Z) : Type 0 where
+pub record ShowsThem (image : ImageValue) (w : World) (h : ℕ) (v : HartValue) (values : ℕ → WordBytes) (marks : Marks) : Type 0 where
   pub there : slice_get w.harts h ≡ Some v
   pub aligned : IsAligned v
   pub keeps : Keeps (image_memory image) w.memory
-  pub words : (x : ℕ) → x % 4 ≡ 0 → words_shown image shared.cells.items x ≡ bytes_at w.memory.bytes x
-  pub marks : mark_at shared.marks ≡ w.reserved
+  pub words : (x : ℕ) → x % 4 ≡ 0 → values x ≡ bytes_at w.memory.bytes x
+  pub reserved : marks ≡ w.reserved
+
+-- the same by what it shares
+abbrev pub ShowsHart : {Z : Type 0} → ImageValue → World → ℕ → HartValue → Shared Z → Type 0
+ShowsHart image w h v shared = ShowsThem image w h v (words_shown image shared.cells.items) (mark_at shared.marks)
+
+-- the same by numbers of parts
+abbrev pub ShowsParts : {Z : Type 0} → ImageValue → World → ℕ → List Hart → List (Shared Z) → ℕ → ℕ → Type 0
+ShowsParts image w h harts shareds hart shared =
+    ShowsThem image w h (hart_numbered harts hart) (words_shown image (cells_in (slice_get shareds shared))) (marks_in (slice_get shareds shared))
+
+-- the world one turn further
+abbrev pub world_turned : Habits → World → Choice → World
+world_turned habits w c = world_settled (stride_by_habit habits) (step w c) c.hart
+
+-- a turn leads from a hart and what it shares to others, and the hart takes so many steps in it
+pub record Turns (habits : Habits) (image : ImageValue) (c : Choice) (v new_v : HartValue) (values new_values : ℕ → WordBytes)
+    (marks new_marks : Marks) (steps : ℕ) : Type 0 where
+  pub leads : (w : World) → ShowsThem image w c.hart v values marks → ShowsThem image (world_turned habits w c) c.hart new_v new_values new_marks
+  pub counts : (w : World) → ShowsThem image w c.hart v values marks → steps ≡ steps_in_turn (stride_by_habit habits) w c.hart c
+
+-- the same by numbers of parts
+abbrev pub PartsTurn : {Z : Type 0} → Habits → ImageValue → Choice → List Hart → List (Shared Z) → ℕ → ℕ
+    → List Hart → List (Shared Z) → ℕ → ℕ → ℕ → Type 0
+PartsTurn habits image c harts shareds hart shared more_harts more_shareds new_hart new_shared steps =
+    Turns habits image c (hart_numbered harts hart) (hart_numbered more_harts new_hart)
+    (words_shown image (cells_in (slice_get shareds shared))) (words_shown image (cells_in (slice_get more_shareds new_shared)))
+    (marks_in (slice_get shareds shared)) (marks_in (slice_get more_shareds new_shared)) steps

@@ -6,18 +6,15 @@ ghost use Rattle.machine.specs.Start.{started};
 ghost use Rattle.machine.specs.World.{World};
 ghost use Rattle.hart_step.specs.Hart.{hart_of};
 ghost use Rattle.explore_laws.specs.Places.{place_begun};
-ghost use Rattle.explore_space.specs.Begun.{first_steps, runs_outside, place_hart_begun, turns_start};
+ghost use Rattle.explore_space.specs.Begun.{first_steps, runs_outside, place_hart_begun, place_rested, turns_start};
 ghost use Rattle.explore_space.specs.Habits.{habits_of, stride_by_habit};
-ghost use Rattle.explore_space.specs.Memo.{AreRests};
-ghost use Rattle.explore_space.specs.Places.{IsKey, IsKeyOf, hart_numbered, place_of_key};
+ghost use Rattle.explore_space.specs.Places.{IsKey, IsKeyOf, KeysStay, hart_numbered, place_of_key};
 
 use crate::first::first_harts;
-use crate::kept::Kept;
-use crate::memo::Memo;
+use crate::kept::{KeptHarts, keep_hart};
 use crate::section::Section;
 use crate::settling::{LocalCode, runs_outside, settle};
 use crate::shared::Shared;
-use crate::stepping::rested_key;
 use hart_step::Hart;
 use image::Image;
 use machine::Inputs;
@@ -25,7 +22,7 @@ use std::alloc::{AllocError, Allocator};
 
 // Whether a hart of a key runs and doesn't stand in a section.
 fn runs_outside_at<A: Allocator>(
-    harts: &Kept<Hart, A>,
+    harts: &KeptHarts<A>,
     key: &[u32],
     number: usize,
     section: Option<Section>,
@@ -37,6 +34,36 @@ fn runs_outside_at<A: Allocator>(
     runs_outside(&harts.parts[key[number] as usize], section)
 }
 
+// The key of the place where a hart has taken its local steps.
+fn rested_key<A: Allocator + Copy>(
+    image: &Image<A>,
+    code: &LocalCode<A>,
+    count: usize,
+    harts: &mut KeptHarts<A>,
+    shareds: &[Shared<A>],
+    key: Vec<u32, A>,
+    number: usize,
+) -> Result<Vec<u32, A>, AllocError>
+    requires its_code { segments_memory code.now.code ≡ code_in (image_memory image.now) }
+    requires there { number < count }
+    requires is { IsKey image.now count harts.old.parts.items shareds.now key.items }
+    ensures key { IfOk result (λ next. IsKeyOf (habits_of code.now) image.now count harts.new.parts.items shareds.now next.items
+        (place_rested code.now.section (place_of_key (habits_of code.now) image.now count harts.old.parts.items shareds.now key.items) number)) }
+    ensures kept { KeysStay (habits_of code.now) image.now count harts.old.parts.items shareds.now harts.new.parts.items shareds.now }
+{
+    let _ = image;
+    let _ = shareds;
+    let mut next = key;
+    let mut hart = harts.parts[next[number] as usize];
+    settle(&mut hart, code);
+    let id = keep_hart(harts, hart)?;
+    if id > 0xffff_ffff {
+        return Err(AllocError);
+    }
+    next[number] = id as u32;
+    Ok(next)
+}
+
 // The key of the place where a hart has taken its local steps, if it still runs behind them, outside
 // of the section.
 fn begin_hart<A: Allocator + Copy>(
@@ -44,22 +71,19 @@ fn begin_hart<A: Allocator + Copy>(
     image: &Image<A>,
     code: &LocalCode<A>,
     count: usize,
-    harts: &mut Kept<Hart, A>,
+    harts: &mut KeptHarts<A>,
     shareds: &[Shared<A>],
-    rests: &mut Memo<A>,
     key: Vec<u32, A>,
     number: usize,
 ) -> Result<Vec<u32, A>, AllocError>
     requires its_code { segments_memory code.now.code ≡ code_in (image_memory image.now) }
     requires there { number < count }
     requires is { IsKey image.now count harts.old.parts.items shareds.now key.items }
-    requires kept { AreRests code.now.section image.now harts.old.parts.items rests.old.keys rests.old.answers }
-    ensures key { IfOk result (λ next. IsKeyOf (habits_of code.now) image.now count harts.new.parts.items shareds.now next.items
+    ensures { IfOk result (λ next. IsKeyOf (habits_of code.now) image.now count harts.new.parts.items shareds.now next.items
         (place_hart_begun code.now.section (place_of_key (habits_of code.now) image.now count harts.old.parts.items shareds.now key.items) number)) }
-    ensures known { AreRests code.now.section image.now harts.new.parts.items rests.new.keys rests.new.answers }
 {
     let before = Vec::from_slice(alloc, &key)?;
-    let next = rested_key(image, code, count, harts, shareds, rests, key, number)?;
+    let next = rested_key(image, code, count, harts, shareds, key, number)?;
     if runs_outside_at(harts, &next, number, code.section) {
         return Ok(next);
     }
@@ -73,25 +97,20 @@ pub fn begun_key<A: Allocator + Copy>(
     image: &Image<A>,
     code: &LocalCode<A>,
     inputs: &Inputs,
-    harts: &mut Kept<Hart, A>,
+    harts: &mut KeptHarts<A>,
     shareds: &[Shared<A>],
-    rests: &mut Memo<A>,
     key: Vec<u32, A>,
 ) -> Result<Vec<u32, A>, AllocError>
     requires its_code { segments_memory code.now.code ≡ code_in (image_memory image.now) }
     requires is { IsKeyOf (habits_of code.now) image.now (length inputs.now) harts.old.parts.items shareds.now key.items
         (place_begun (stride_by_habit (habits_of code.now)) (started image.now inputs.now)) }
-    requires kept { AreRests code.now.section image.now harts.old.parts.items rests.old.keys rests.old.answers }
-    ensures key { IfOk result (λ next. IsKeyOf (habits_of code.now) image.now (length inputs.now) harts.new.parts.items shareds.now next.items
+    ensures { IfOk result (λ next. IsKeyOf (habits_of code.now) image.now (length inputs.now) harts.new.parts.items shareds.now next.items
         (turns_start (habits_of code.now) (started image.now inputs.now))) }
-    ensures known { AreRests code.now.section image.now harts.new.parts.items rests.new.keys rests.new.answers }
 {
     let count = inputs.harts() as usize;
     let mut key = key;
     'numbers: for number in 0..count {
-        key = begin_hart(
-            alloc, image, code, count, harts, shareds, rests, key, number,
-        )?;
+        key = begin_hart(alloc, image, code, count, harts, shareds, key, number)?;
     }
     Ok(key)
 }

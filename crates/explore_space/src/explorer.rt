@@ -15,7 +15,6 @@ use crate::failing::{breaks_word, fails_at, harts_within, has_ended_at};
 use crate::known::Known;
 use crate::question::Always;
 use crate::settling::LocalCode;
-use crate::stepping::steps_from;
 use explore_search::Space;
 use hart_step::Hart;
 use image::Image;
@@ -75,21 +74,7 @@ impl<'a, A: Allocator + Copy> Explorer<'a, A> {
         ensures { IfOk result (λ steps. steps ≡ steps_in_turn (stride_by_habit (habits_of self.now.known.code.now)) (world_of_key self.now.known.image.now (length self.now.inputs.now)
             self.now.known.harts.parts.items self.now.known.shareds.parts.items key.now) turn.hart turn) }
     {
-        let count = self.inputs.harts() as usize;
-        let number = turn.hart as usize;
-        if number >= count {
-            return Ok(0);
-        }
-        let hart = &self.known.harts.parts[key[number] as usize];
-        let shared = &self.known.shareds.parts[key[count] as usize];
-        steps_from(
-            self.alloc,
-            self.known.image,
-            self.known.code,
-            hart,
-            shared,
-            turn,
-        )
+        self.known.steps_in(self.alloc, self.inputs, key, turn)
     }
 
     // Whether a word isn't what it must be in a key's place.

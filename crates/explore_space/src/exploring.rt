@@ -1,5 +1,5 @@
 //! Every schedule of a program.
-ghost use Rattle.std.specs.Prelude.{◌≡◌, ◌%◌, IfOk, length};
+ghost use Rattle.std.specs.Prelude.{◌≡◌, ◌%◌, [], IfOk, is_ok, length, true};
 ghost use Rattle.machine.specs.Start.{started};
 ghost use Rattle.image.specs.Image.{IsSound};
 ghost use Rattle.mem_store.specs.Image.{image_memory, segments_memory};
@@ -48,8 +48,8 @@ const TRIES: usize = 64;
 pub struct Failing<A: Allocator> {
     /// The choices: the first local steps of the harts that take turns, and the turns.
     pub choices: Vec<Choice, A>,
-    /// How many turns they are: a choice, and the local steps of its hart behind it. No fewer turns
-    /// fail or hang, and no list of fewer choices does.
+    /// How many turns they are: a choice, and the steps that its hart takes at once behind it. No
+    /// fewer turns fail or hang, and no list of fewer choices does.
     pub turns: usize,
 }
 
@@ -253,6 +253,7 @@ fn bad_answer<A: Allocator + Copy>(
     ensures ends { IfOk result (λ told. IfOk told (λ answer. TellsEnds question.expect.rule question.refusals image.now inputs.now answer)) }
     ensures exits { IfOk result (λ told. IfOk told (λ answer. TellsExits question.never_both question.expect.exit question.refusals image.now inputs.now answer)) }
     ensures bounds { IfOk result (λ told. IfOk told (λ answer. TellsBounds question.bounds question.refusals image.now inputs.now answer)) }
+    ensures told { code.now.words.items ≡ [] → IfOk result (λ told. is_ok told ≡ true) }
 {
     let _ = meant;
     let walk = walk_turns(alloc, image, code, inputs, turns)?;
@@ -300,6 +301,7 @@ fn searched_answer<A: Allocator + Copy>(
     ensures ends { IfOk result (λ told. IfOk told (λ answer. TellsEnds question.expect.rule question.refusals image.now inputs.now answer)) }
     ensures exits { IfOk result (λ told. IfOk told (λ answer. TellsExits question.never_both question.expect.exit question.refusals image.now inputs.now answer)) }
     ensures bounds { IfOk result (λ told. IfOk told (λ answer. TellsBounds question.bounds question.refusals image.now inputs.now answer)) }
+    ensures told { code.now.words.items ≡ [] → IfOk result (λ told. is_ok told ≡ true) }
 {
     let edges = edges_for(question.expect.exit, question.bounds);
     match search(alloc, explorer, meant, question.most, edges, progress)? {
@@ -328,6 +330,7 @@ fn answer_with<A: Allocator + Copy>(
     ensures ends { IfOk result (λ told. IfOk told (λ answer. TellsEnds question.expect.rule question.refusals image.now inputs.now answer)) }
     ensures exits { IfOk result (λ told. IfOk told (λ answer. TellsExits question.never_both question.expect.exit question.refusals image.now inputs.now answer)) }
     ensures bounds { IfOk result (λ told. IfOk told (λ answer. TellsBounds question.bounds question.refusals image.now inputs.now answer)) }
+    ensures told { words.items ≡ [] → IfOk result (λ told. is_ok told ≡ true) }
 {
     // An image's segments are sound: they end at the last address.
     let _ = image.segments();
@@ -395,7 +398,7 @@ fn answer_by_guess<A: Allocator + Copy>(
     let none = Vec::new(alloc);
     match answer_with(alloc, image, inputs, meant, question, none, progress)? {
         Ok(answer) => Ok(answer),
-        Err(_) => Err(AllocError),
+        Err(_) => unreachable!(),
     }
 }
 
@@ -403,9 +406,9 @@ fn answer_by_guess<A: Allocator + Copy>(
 /// failure: a word that isn't what it must be, two harts in the section of code, a broken rule, or
 /// without a rule a hart that has faulted. None does; or one does, which is given; or turns reach
 /// more places than may be looked at. Where each hart must exit and none fails, it is also answered
-/// whether a list leads to a world that has no way out, and one that does is given. Where bounds are asked for and none fails or hangs, the exact bound on each hart's own
-/// steps is given, or that it has none. The only error is out of memory; an entry that is no
-/// multiple of 4 is refused so too.
+/// whether a list leads to a world that has no way out, and one that does is given. Where bounds are
+/// asked for and none fails or hangs, the exact bound on each hart's own steps is given, or that it
+/// has none. The only error is out of memory; an entry that is no multiple of 4 is refused so too.
 pub fn explore<A: Allocator + Copy>(
     alloc: A,
     image: &Image<A>,

@@ -6,7 +6,7 @@ ghost use Rattle.explore_laws.specs.Places.{place_begun};
 ghost use Rattle.explore_space.specs.Places.{IsKeyOf};
 ghost use Rattle.explore_space.specs.Habits.{Habits, stride_by_habit};
 
-use crate::kept::Kept;
+use crate::kept::{KeptHarts, KeptShareds, push_hart, push_shared};
 use crate::shared::Shared;
 use hart_reservations::MAX_HARTS;
 use hart_step::Hart;
@@ -45,14 +45,25 @@ pub fn first_harts<A: Allocator + Copy>(
     Ok(harts)
 }
 
+// Keeps the harts with which a program begins.
+fn keep_all<A: Allocator + Copy>(alloc: A, begin: &[Hart]) -> Result<KeptHarts<A>, AllocError>
+    ensures { IfOk result (λ harts. harts.parts.items ≡ begin.now) }
+{
+    let mut harts = KeptHarts::new(alloc)?;
+    'harts: for hart in begin {
+        push_hart(&mut harts, *hart)?;
+    }
+    Ok(harts)
+}
+
 /// The key of the place in which a program begins, over its own parts alone. An entry that is no
 /// multiple of 4 is refused here.
 pub fn first_parts<A: Allocator + Copy>(
     alloc: A,
     image: &Image<A>,
     inputs: &Inputs,
-    harts: &mut Kept<Hart, A>,
-    shareds: &mut Kept<Shared<A>, A>,
+    harts: &mut KeptHarts<A>,
+    shareds: &mut KeptShareds<A>,
 ) -> Result<Vec<u32, A>, AllocError>
     ensures { IfOk result (λ key. (habits : Habits) → IsKeyOf habits image.now (length inputs.now) harts.new.parts.items shareds.new.parts.items
         key.items (place_begun (stride_by_habit habits) (started image.now inputs.now))) }
@@ -62,11 +73,12 @@ pub fn first_parts<A: Allocator + Copy>(
     }
     let row = first_row(alloc, inputs.harts())?;
     let begin = first_harts(alloc, image, inputs)?;
-    harts.parts = begin;
-    shareds.parts.clear();
-    shareds.parts.push(Shared {
+    *harts = keep_all(alloc, &begin)?;
+    *shareds = KeptShareds::new(alloc)?;
+    let nothing = Shared {
         marks: [None; MAX_HARTS],
         cells: Vec::new(alloc),
-    })?;
+    };
+    push_shared(shareds, nothing)?;
     Ok(row)
 }

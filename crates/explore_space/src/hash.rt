@@ -1,58 +1,49 @@
-//! Hashes of parts. They only decide how soon a part is found, so no contract speaks of them.
+//! Hashes of parts, by which parts are found again.
+ghost use Rattle.std.specs.Prelude.{◌≡◌, length, slice_index};
+ghost use Rattle.hart_reservations.specs.Marks.{mark_at};
+ghost use Rattle.hart_step.specs.Hart.{hart_of};
+ghost use Rattle.explore_sites.specs.Cells.{cell_words};
+ghost use Rattle.explore_space.specs.Hashes.{hash_of_cells, hash_of_hart, hash_of_mark, hash_of_marks, hash_of_shared, hash_row, hash_words, state_word};
+
 use crate::shared::Shared;
-use explore_sites::{Cell, word_at};
+use explore_sites::Cell;
+use explore_table::mixed;
 use hart_step::{Hart, HartState};
-use image::Image;
 use std::alloc::Allocator;
 
-// What words are multiplied by: 2 ^ 32 divided by the golden ratio, and an odd number unlike it.
-const FIRST: u32 = 0x9e37_79b1;
-
-const SECOND: u32 = 0x85eb_ca6b;
-
-/// A hash: two numbers.
-#[derive(Clone, Copy)]
-pub struct Hash {
-    first: u32,
-    second: u32,
+// A hash as two words, the higher one first.
+fn words_of(hash: u64) -> [u32; 2]
+    ensures { result ≡ hash_words hash }
+{
+    [(hash >> 32) as u32, (hash % (1 << 32)) as u32]
 }
 
-impl Hash {
-    /// The numbers.
-    pub fn words(self) -> [u32; 2] {
-        [self.first, self.second]
+// The hash of words behind another hash.
+fn hash_of_row(start: u64, row: &[u32]) -> u64
+    ensures { result ≡ hash_row start (slice_index row.now) (length row.now) }
+{
+    let mut hash = start;
+    'words: for word in row {
+        hash = mixed(hash, *word);
     }
-
-    // The hash of one word more.
-    fn mixed(self, word: u32) -> Hash {
-        Hash {
-            first: self.first.wrapping_mul(FIRST).wrapping_add(word),
-            second: (self.second ^ word).wrapping_mul(SECOND),
-        }
-    }
-
-    // The sum of hashes, which has no order.
-    fn plus(self, other: Hash) -> Hash {
-        Hash {
-            first: self.first.wrapping_add(other.first),
-            second: self.second.wrapping_add(other.second),
-        }
-    }
+    hash
 }
 
-const NOTHING: Hash = Hash {
-    first: 0,
-    second: 0,
-};
-
-// A number that depends on each bit of a word.
-fn spread(word: u32) -> u32 {
-    let half = (word ^ (word >> 16)).wrapping_mul(SECOND);
-    (half ^ (half >> 13)).wrapping_mul(FIRST)
+// The same of bytes.
+fn hash_of_bytes(start: u64, bytes: &[u8]) -> u64
+    ensures { result ≡ hash_row start (slice_index bytes.now) (length bytes.now) }
+{
+    let mut hash = start;
+    'bytes: for byte in bytes {
+        hash = mixed(hash, u32::from(*byte));
+    }
+    hash
 }
 
-// The hash of a state, but for its cause.
-fn state_word(state: HartState) -> u32 {
+// A state as a word, but for its cause.
+fn state_word(state: HartState) -> u32
+    ensures { result ≡ state_word state }
+{
     match state {
         HartState::Running => 0,
         HartState::Exited(status) => status.wrapping_mul(2).wrapping_add(1),
@@ -61,49 +52,50 @@ fn state_word(state: HartState) -> u32 {
 }
 
 /// The hash of a hart.
-pub fn hash_of_hart(hart: &Hart) -> Hash {
-    let mut hash = NOTHING.mixed(hart.pc).mixed(state_word(hart.state));
-    for word in &hart.registers {
-        hash = hash.mixed(*word);
+pub fn hash_of_hart(hart: &Hart) -> [u32; 2]
+    ensures { result ≡ hash_words (hash_of_hart (hart_of hart.now)) }
+{
+    let hash = mixed(hash_of_row(0, &hart.registers), hart.pc);
+    words_of(mixed(hash, state_word(hart.state)))
+}
+
+// The hash of the words that cells say.
+fn hash_of_cells(cells: &[Cell]) -> u64
+    ensures { result ≡ hash_of_cells 0 (cell_words cells.now) }
+{
+    let mut hash = 0;
+    'cells: for cell in cells {
+        hash = hash_of_bytes(mixed(hash, cell.address), &cell.bytes);
     }
     hash
 }
 
-// The hash of a cell: nothing where the word is the image's, so that such a cell doesn't count.
-fn hash_of_cell<A: Allocator>(image: &Image<A>, cell: &Cell) -> Hash {
-    if word_at(image, &[], cell.address) == cell.bytes {
-        return NOTHING;
-    }
-    let word = u32::from_le_bytes(cell.bytes);
-    let place = spread(cell.address);
-    Hash {
-        first: spread(place ^ word),
-        second: spread(place.wrapping_add(word)),
-    }
-}
-
-// The hash of cells, whatever their order.
-fn hash_of_cells<A: Allocator>(image: &Image<A>, cells: &[Cell]) -> Hash {
-    let mut sum = NOTHING;
-    for cell in cells {
-        sum = sum.plus(hash_of_cell(image, cell));
-    }
-    sum
-}
-
-// A reservation as a word.
-fn mark_word(mark: Option<u32>) -> u32 {
+// The hash of a hart's reservation, if it has one, behind another hash.
+fn hash_of_mark(start: u64, hart: u32, mark: Option<u32>) -> u64
+    ensures { result ≡ hash_of_mark start hart mark }
+{
     match mark {
-        Some(word) => word ^ 1,
-        None => 0,
+        Some(word) => mixed(mixed(start, hart), word),
+        None => start,
     }
+}
+
+// The same of the reservations of harts.
+fn hash_of_marks(start: u64, marks: &[Option<u32>]) -> u64
+    requires { length marks.now ≡ 32 }
+    ensures { result ≡ hash_of_marks start (mark_at marks.now) 32 }
+{
+    let mut hash = start;
+    'harts: for hart in 0..32 {
+        hash = hash_of_mark(hash, hart, marks[hart as usize]);
+    }
+    hash
 }
 
 /// The hash of what harts share.
-pub fn hash_of_shared<A: Allocator>(image: &Image<A>, shared: &Shared<A>) -> Hash {
-    let mut hash = hash_of_cells(image, &shared.cells);
-    for mark in &shared.marks {
-        hash = hash.mixed(mark_word(*mark));
-    }
-    hash
+pub fn hash_of_shared<A: Allocator>(shared: &Shared<A>) -> [u32; 2]
+    ensures { result ≡ hash_words (hash_of_shared shared.now) }
+{
+    let hash = hash_of_cells(&shared.cells);
+    words_of(hash_of_marks(hash, &shared.marks))
 }

@@ -3,25 +3,26 @@ ghost use Rattle.std.specs.Prelude.{◌≡◌, ◌<◌, List, ℕ, IfOk, length}
 ghost use Rattle.mem_store.specs.Image.{image_memory, segments_memory};
 ghost use Rattle.hart_local.specs.CodeMemory.{code_in};
 ghost use Rattle.machine.specs.Start.{started};
+ghost use Rattle.explore_laws.specs.OwnSteps.{steps_in_turn};
 ghost use Rattle.explore_laws.specs.Places.{place_after};
 ghost use Rattle.explore_space.specs.Begun.{turns_start};
-ghost use Rattle.explore_space.specs.Habits.{habits_of};
-ghost use Rattle.explore_space.specs.Memo.{AreRests, AreSteps};
-ghost use Rattle.explore_space.specs.Places.{IsKey, IsKeyOf, KeysStay, place_of_key};
+ghost use Rattle.explore_space.specs.Habits.{habits_of, stride_by_habit};
+ghost use Rattle.explore_space.specs.Memo.{AreTurns};
+ghost use Rattle.explore_space.specs.Places.{IsKey, IsKeyOf, KeysStay, place_of_key, world_of_key};
 
 use crate::beginning::begun_key;
 use crate::first::first_parts;
-use crate::kept::Kept;
+use crate::kept::{KeptHarts, KeptShareds};
 use crate::memo::Memo;
 use crate::settling::LocalCode;
 use crate::shared::Shared;
-use crate::stepping::{settled_key, stepped_key};
+use crate::turning::{refusal_word, steps_from, turned_key};
 use hart_step::Hart;
 use image::Image;
 use machine::{Choice, Inputs};
 use std::alloc::{AllocError, Allocator};
 
-/// The parts of a program's worlds, and where steps and local steps have led from them.
+/// The parts of a program's worlds, and where turns have led from them.
 #[derive(Drop)]
 pub struct Known<'a, A: Allocator> {
     /// The program.
@@ -29,19 +30,17 @@ pub struct Known<'a, A: Allocator> {
     /// Its code, the section in which no step is taken at once, and whose words are.
     pub code: &'a LocalCode<A>,
     /// The harts.
-    pub harts: Kept<Hart, A>,
+    pub harts: KeptHarts<A>,
     /// What harts share.
-    pub shareds: Kept<Shared<A>, A>,
-    steps: Memo<A>,
-    rests: Memo<A>,
+    pub shareds: KeptShareds<A>,
+    turns: Memo<A>,
     ghost its_code: { segments_memory code.now.code ≡ code_in (image_memory image.now) },
-    ghost steps_are: { AreSteps image.now harts.parts.items shareds.parts.items steps.keys steps.answers },
-    ghost rests_are: { AreRests code.now.section image.now harts.parts.items rests.keys rests.answers },
+    ghost turns_are: { AreTurns (habits_of code.now) image.now harts.parts.items shareds.parts.items turns.keys turns.answers },
 }
 
 impl<'a, A: Allocator + Copy> Known<'a, A> {
     /// Nothing is known yet. Fails when out of memory.
-    #[tactic(auto, using(crate::proofs::MemoLemmas::no_steps, crate::proofs::MemoLemmas::no_rests))]
+    #[tactic(auto, using(crate::proofs::MemoLemmas::no_turns))]
     pub fn new(
         alloc: A,
         image: &'a Image<A>,
@@ -51,22 +50,20 @@ impl<'a, A: Allocator + Copy> Known<'a, A> {
         ensures image { IfOk result (λ known. known.image.now ≡ image.now) }
         ensures code { IfOk result (λ known. known.code.now ≡ code.now) }
     {
-        let harts = Kept::new(alloc)?;
-        let shareds = Kept::new(alloc)?;
-        let steps = Memo::new(alloc)?;
-        let rests = Memo::new(alloc)?;
+        let harts = KeptHarts::new(alloc)?;
+        let shareds = KeptShareds::new(alloc)?;
+        let turns = Memo::new(alloc)?;
         Ok(Known {
             image,
             code,
             harts,
             shareds,
-            steps,
-            rests,
+            turns,
         })
     }
 
     /// The key of the place in which turns start; nothing else is known then.
-    #[tactic(auto, using(crate::proofs::MemoLemmas::no_steps, crate::proofs::MemoLemmas::no_rests))]
+    #[tactic(auto, using(crate::proofs::MemoLemmas::no_turns))]
     pub fn begin(&mut self, alloc: A, inputs: &Inputs) -> Result<Vec<u32, A>, AllocError>
         ensures key { IfOk result (λ key. IsKeyOf (habits_of self.new.code.now) self.new.image.now (length inputs.now) self.new.harts.parts.items
             self.new.shareds.parts.items key.items
@@ -74,8 +71,7 @@ impl<'a, A: Allocator + Copy> Known<'a, A> {
         ensures image { self.new.image.now ≡ self.old.image.now }
         ensures code { self.new.code.now ≡ self.old.code.now }
     {
-        self.steps = Memo::new(alloc)?;
-        self.rests = Memo::new(alloc)?;
+        self.turns = Memo::new(alloc)?;
         let key = first_parts(
             alloc,
             self.image,
@@ -90,7 +86,6 @@ impl<'a, A: Allocator + Copy> Known<'a, A> {
             inputs,
             &mut self.harts,
             &self.shareds.parts,
-            &mut self.rests,
             key,
         )
     }
@@ -112,27 +107,43 @@ impl<'a, A: Allocator + Copy> Known<'a, A> {
         ensures image { self.new.image.now ≡ self.old.image.now }
         ensures code { self.new.code.now ≡ self.old.code.now }
     {
-        let next = stepped_key(
-            alloc,
-            self.image,
-            count,
-            &mut self.harts,
-            &mut self.shareds,
-            &mut self.steps,
-            key,
-            turn,
-        )?;
-        settled_key(
+        turned_key(
             alloc,
             self.image,
             self.code,
             count,
             &mut self.harts,
             &mut self.shareds,
-            &mut self.steps,
-            &mut self.rests,
-            next,
-            turn.hart,
+            &mut self.turns,
+            key,
+            turn,
         )
+    }
+
+    /// How many steps a turn's hart takes in it from a key's place. Fails when out of memory.
+    pub fn steps_in(
+        &self,
+        alloc: A,
+        inputs: &Inputs,
+        key: &[u32],
+        turn: Choice,
+    ) -> Result<u32, AllocError>
+        requires { IsKey self.now.image.now (length inputs.now) self.now.harts.parts.items self.now.shareds.parts.items key.now }
+        ensures { IfOk result (λ steps. steps ≡ steps_in_turn (stride_by_habit (habits_of self.now.code.now)) (world_of_key self.now.image.now
+            (length inputs.now) self.now.harts.parts.items self.now.shareds.parts.items key.now) turn.hart turn) }
+    {
+        let count = inputs.harts() as usize;
+        let number = turn.hart as usize;
+        if number >= count {
+            return Ok(0);
+        }
+        let (hart, shared) = (key[number], key[count]);
+        let words = [hart, shared, turn.hart, refusal_word(turn)];
+        if let Some([_, _, steps]) = self.turns.find(&words) {
+            return Ok(*steps);
+        }
+        let hart = &self.harts.parts[hart as usize];
+        let shared = &self.shareds.parts[shared as usize];
+        steps_from(alloc, self.image, self.code, hart, shared, turn)
     }
 }

@@ -37,4 +37,4 @@ mod run_end;
 mod section;
 mod settling;
 mod shared;
-mod stepping;
+mod turning;

@@ -1,5 +1,5 @@
 //! Words that belong to one hart each.
-ghost use Rattle.std.specs.Prelude.{◌≡◌, IfOk, None};
+ghost use Rattle.std.specs.Prelude.{◌≡◌, [], IfOk, None};
 ghost use Rattle.explore_space.specs.Failing.{IsUnowned};
 ghost use Rattle.explore_space.specs.Habits.{owners_in};
 
@@ -34,7 +34,8 @@ pub fn without<A: Allocator>(
     words: &[OwnWord],
     address: u32,
 ) -> Result<Vec<OwnWord, A>, AllocError>
-    ensures { IfOk result (λ left. owners_in left.items address ≡ None) }
+    ensures unowned { IfOk result (λ left. owners_in left.items address ≡ None) }
+    ensures none { words.now ≡ [] → IfOk result (λ left. left.items ≡ []) }
 {
     let mut left = Vec::new(alloc);
     'words: for own in words {
@@ -51,7 +52,8 @@ pub fn unjudged<A: Allocator>(
     words: Vec<OwnWord, A>,
     always: Option<Always>,
 ) -> Result<Vec<OwnWord, A>, AllocError>
-    ensures { IfOk result (λ left. IsUnowned always (owners_in left.items)) }
+    ensures unowned { IfOk result (λ left. IsUnowned always (owners_in left.items)) }
+    ensures none { words.items ≡ [] → IfOk result (λ left. left.items ≡ []) }
 {
     match always {
         None => Ok(words),

@@ -21,8 +21,8 @@ runs_outside_at-requires-clause-known g c =
     (id_at c.args.image.now c.args.count c.rested_key.new.harts.parts.items c.args.shareds.now c.in_ok-next.next.items
     c.in_ok-next.ensures.key.0 c.args.number c.requires.there))
 
-pub returns-then-runs_outside_at-clause-key : goal.returns-then-runs_outside_at-clause-key
-returns-then-runs_outside_at-clause-key g c =
+pub returns-then-runs_outside_at : goal.returns-then-runs_outside_at
+returns-then-runs_outside_at g c =
     let harts = c.rested_key.new.harts.parts.items in
     begun_here (habits_of c.args.code.now) c.args.image.now c.args.count harts c.args.shareds.now
     (place_of_key (habits_of c.args.code.now) c.args.image.now c.args.count c.args.harts.now.parts.items c.args.shareds.now c.args.key.items) c.args.number c.requires.there
@@ -31,8 +31,8 @@ returns-then-runs_outside_at-clause-key g c =
     (ap (λ (k : List ℕ). runs_outside c.args.code.now.section (hart_numbered harts (slice_index k c.args.number))) (sym c.deref-2.ensures.value)
     ∙ sym c.runs_outside_at.ensures ∙ c.if-runs_outside_at.true)
 
-pub returns-clause-key : goal.returns-clause-key
-returns-clause-key g c =
+pub returns : goal.returns
+returns g c =
     let harts = c.rested_key.new.harts.parts.items in
     begun_not (habits_of c.args.code.now) c.args.image.now c.args.count harts c.args.shareds.now
     (place_of_key (habits_of c.args.code.now) c.args.image.now c.args.count c.args.harts.now.parts.items c.args.shareds.now c.args.key.items) c.args.number c.requires.there

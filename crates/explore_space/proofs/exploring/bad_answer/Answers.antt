@@ -6,7 +6,7 @@ use Rattle.explore_space.specs.Begun.{turns_start}
 use Rattle.explore_space.specs.Every.{FailsFirst, meant_choices, run_fails}
 use Rattle.explore_space.specs.Failing.{ends_search}
 use Rattle.explore_space.specs.Habits.{habits_of}
-use Rattle.explore_space.proofs.EveryLemmas.{bad_clear, bad_good, bad_is_bad}
+use Rattle.explore_space.proofs.EveryLemmas.{bad_clear, bad_good, bad_is_bad, unowned_fails}
 use Rattle.explore_space.proofs.exploring.bad_answer.Goals as goal
 
 pub returns-clause-holds : goal.returns-clause-holds
@@ -32,3 +32,21 @@ returns-clause-holds g c =
     (bad_is_bad rule q.always habits q.refusals image inputs c.requires.entry c.requires.unowned turns choices (length turns)
     bad.meant (bad_good rule q.always code.section code.words.items q.refusals image inputs c.requires.sound turns bad)
     (bad_clear rule q.always code.section code.words.items q.refusals image inputs c.requires.sound turns bad) failed c.in_ok-walk.ensures.choices (λ i. length turns))
+
+pub returns-then-not-branch-clause-told : goal.returns-then-not-branch-clause-told
+returns-then-not-branch-clause-told g c = λ none.
+    let q = c.args.question in
+    let rule = q.expect.rule in
+    let image = c.args.image.now in
+    let inputs = c.args.inputs.now in
+    let code = c.args.code.now in
+    let turns = c.args.turns.now in
+    let choices = c.in_ok-walk.walk.choices.items in
+    let first = turns_start (habits_of code) (started image inputs) in
+    let bad : LeadsToBad (meant_choices q.refusals (length inputs)) first (ends_search rule q.always code.section code.words.items inputs) turns
+    = subst (λ (ms : List Choice). LeadsToBad ms first (ends_search rule q.always code.section code.words.items inputs) turns)
+    c.requires.meant c.requires.bad in
+    sym c.if-not-branch.true ∙ c.in_ok-has_failed.ensures image c.in_ok-walk.ensures.world
+    ∙ sym (ap (λ s. run_fails rule q.always s image inputs choices) c.requires.section)
+    ∙ unowned_fails rule q.always code.section code.words.items q.refusals image inputs c.requires.sound c.requires.entry c.requires.unowned none
+    turns choices bad c.in_ok-walk.ensures.choices

@@ -1,4 +1,4 @@
-use Rattle.std.proofs.Common.{◌≡◌, ◌≢◌, ℕ, List, [], ◌∷◌, ◌++◌, get_or, cond, Option, Some, None, ap, sym, ◌∙◌, inl, inr, eq-eqb}
+use Rattle.std.proofs.Common.{◌≡◌, ◌≢◌, ℕ, List, [], ◌∷◌, ◌++◌, length, get_or, cond, Option, Some, None, ap, sym, ◌∙◌, inl, inr, arith, eq-eqb}
 use Rattle.std.proofs.lemmas.Bool.{cases_eq, ne_eqb}
 use Rattle.explore_space.specs.Habits.{owners_in}
 use Rattle.explore_space.specs.declared.own_words.OwnWord.{OwnWord}
@@ -19,10 +19,13 @@ other_added (first ∷ words) own a other none = elim (cases_eq first.word a) [
 ]
 
 pub words-preserved : goal.words-preserved
-words-preserved g c = elim c.if-own-address.branch [
-  | then-own-address+in_ok-push w ↦
-      let own : OwnWord = get_or c.args.words.now c.words.own-index (record { word = 0; hart = 0 }) in
-      ap (λ l. owners_in l.items c.args.address) w.left-is ∙ ap (λ xs. owners_in xs c.args.address) w.in_ok-push.ensures.items
-      ∙ other_added c.words.left.items own c.args.address w.if-own-address.true c.words.invariant
-  | else-own-address w ↦ ap (λ l. owners_in l.items c.args.address) w.left-is ∙ c.words.invariant
-]
+words-preserved g c = (
+  elim c.if-own-address.branch [
+    | then-own-address+in_ok-push w ↦
+        let own : OwnWord = get_or c.args.words.now c.words.own-index (record { word = 0; hart = 0 }) in
+        ap (λ l. owners_in l.items c.args.address) w.left-is ∙ ap (λ xs. owners_in xs c.args.address) w.in_ok-push.ensures.items
+        ∙ other_added c.words.left.items own c.args.address w.if-own-address.true c.words.invariant.0
+    | else-own-address w ↦ ap (λ l. owners_in l.items c.args.address) w.left-is ∙ c.words.invariant.0
+  ],
+  λ none. absurd (let low = c.words-test.true in let nothing = ap length none in omega (arith, low, nothing)),
+)

@@ -3,6 +3,8 @@ use Rattle.std.proofs.lemmas.Bool.Decides.{when_false}
 use Rattle.std.proofs.lemmas.Option.{slice_get_read}
 use Rattle.hart_step.specs.Hart.{hart_of}
 use Rattle.hart_step.specs.declared.hart.Hart.{Hart}
+use Rattle.explore_space.specs.Hashes.{hash_of_hart}
+use Rattle.explore_space.proofs.KeptLemmas.{hashed_more}
 use Rattle.explore_space.proofs.SameLemmas.{all_so_far, apart_more, none_so_far}
 use Rattle.explore_space.proofs.parts.add_hart.Goals as goal
 
@@ -25,3 +27,7 @@ returns-clause-once g c =
     let long = c.args.harts.now.ok.0 in
     apart_more (λ (one : Hart) (other : Hart). hart_of one ≢ hart_of other) c.args.harts.now.items c.push.new.self.items c.args.hart c.harts.id
     c.in_ok-push.ensures.items (omega (arith, past, count, long)) c.harts.invariant
+
+pub returns-clause-hashed : goal.returns-clause-hashed
+returns-clause-hashed g c = λ hashes there.
+    hashed_more (λ (h : Hart). hash_of_hart (hart_of h)) hashes c.args.harts.now.items c.push.new.self.items c.args.hart c.in_ok-push.ensures.items there

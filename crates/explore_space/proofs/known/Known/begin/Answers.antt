@@ -16,4 +16,4 @@ pub returns-clause-key : goal.returns-clause-key
 returns-clause-key g c =
     subst (λ shareds. IfOk c.begun_key.result (λ k. IsKeyOf (habits_of c.args.self.now.code.now) c.args.self.now.image.now (length c.args.inputs.now) c.begun_key.new.harts.parts.items
     shareds k.items (turns_start (habits_of c.args.self.now.code.now) (started c.args.self.now.image.now c.args.inputs.now)))) c.deref.ensures.value
-    c.begun_key.ensures.key
+    c.begun_key.ensures
