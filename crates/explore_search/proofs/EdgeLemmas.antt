@@ -1,5 +1,5 @@
 -- Rows of edges, as keys and rows grow.
-use Rattle.std.proofs.Common.{◌≡◌, ℕ, ◌+◌, ◌<◌, ◌≤◌, List, [], ◌∷◌, ◌++◌, length, Option, Some, refl, ap, sym, ◌∙◌, subst, arith, inl, inr, ◌⊎◌}
+use Rattle.std.proofs.Common.{◌≡◌, ℕ, ◌+◌, ◌<◌, ◌≤◌, List, [], ◌∷◌, ◌++◌, length, Some, ap, sym, ◌∙◌, subst, arith, inl, inr}
 use Rattle.std.specs.List.{slice_get}
 use Rattle.std.proofs.lemmas.List.{length-append}
 use Rattle.std.proofs.lemmas.Option.{slice_get_within}
@@ -56,17 +56,17 @@ module _ (IsKey IsKeyLater : List ℕ → Type 0) (place later : List ℕ → Pl
       record { count = from.count; lead = lead_stays key row (are k key old) from.lead }
 
   -- one edge more
-  pub lead_more : (key row more : List ℕ) (to : ℕ) (i : ℕ) (c : Choice) → IsKey key → length row ≡ i → slice_get choices i ≡ Some c
-      → Lead place choices keys (place key) row → IsNumberOf later longer to (place_after (place key) c) → more ≡ row ++ to ∷ []
-      → Lead later choices longer (later key) more
-  lead_more key row more to i c is count at_i lead now pushed k x d e f =
+  pub lead_more : (key row more : List ℕ) (to : ℕ) (i : ℕ) → IsKey key → length row ≡ i
+      → Lead place choices keys (place key) row
+      → ((d : Choice) → slice_get choices i ≡ Some d → IsNumberOf later longer to (place_after (place key) d))
+      → more ≡ row ++ to ∷ [] → Lead later choices longer (later key) more
+  lead_more key row more to i is count lead now pushed k x d e f =
       elim (get_either row to x k (ap (λ r. slice_get r k) (sym pushed) ∙ e)) [
         | inl old ↦ lead_stays key row is lead k x d old f
         | inr new ↦
-            let same : c ≡ d = same_at choices i c d at_i (ap (slice_get choices) (sym (new.0 ∙ count)) ∙ f) in
             subst (λ p. IsNumberOf later longer x (place_after p d)) (sym (kept key is).1)
             (subst (λ n. IsNumberOf later longer n (place_after (place key) d)) new.1
-            (subst (λ y. IsNumberOf later longer to (place_after (place key) y)) same now))
+            (now d (ap (slice_get choices) (sym (new.0 ∙ count)) ∙ f)))
       ]
 
 -- no edge is there yet

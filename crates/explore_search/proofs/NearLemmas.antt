@@ -116,19 +116,15 @@ module _ (IsKey IsKeyLater : List ℕ → Type 0) (place later : List ℕ → Pl
   -- one choice more was taken from a key
   pub soon_step : (choices : List Choice) (keys longer : List (List ℕ)) (links others : List Link) (most : ℕ) → GoesOn keys longer
       → GoesOn links others → ((i : ℕ) (k : List ℕ) → slice_get keys i ≡ Some k → IsKey k) → (key : List ℕ) → IsKey key
-      → (i : ℕ) (c : Choice) → slice_get choices i ≡ Some c
+      → (i : ℕ)
       → ((k : ℕ) (d : Choice) → k < i → slice_get choices k ≡ Some d → IsSoon place keys links most (place_after (place key) d))
-      → IsSoon later longer others most (place_after (place key) c)
+      → ((d : Choice) → slice_get choices i ≡ Some d → IsSoon later longer others most (place_after (place key) d))
       → (k : ℕ) (d : Choice) → k < i + 1 → slice_get choices k ≡ Some d → IsSoon later longer others most (place_after (later key) d)
-  soon_step choices keys longer links others most begins links_begin are key is i c at_i before now k d h e =
+  soon_step choices keys longer links others most begins links_begin are key is i before now k d h e =
       subst (λ p. IsSoon later longer others most (place_after p d)) (sym (kept key is).1) (elim (below_or k i h) [
         | inl below ↦ soon_stays keys longer links others most (place_after (place key) d) are begins links_begin (before k d below e)
-        | inr here ↦ subst (λ x. IsSoon later longer others most (place_after (place key) x))
-            (same_choice c d (sym at_i ∙ ap (slice_get choices) (sym here) ∙ e)) now
+        | inr here ↦ now d (ap (slice_get choices) (sym here) ∙ e)
       ])
-    where
-      same_choice : (c d : Choice) → ◌≡◌ {A = Option Choice} (Some c) (Some d) → c ≡ d
-      same_choice c d e = cc
 
 -- all that follows a key is found soon
 pub soons_more : (place : List ℕ → Place) (choices : List Choice) (keys : List (List ℕ)) (links : List Link) (n : ℕ) (key : List ℕ)

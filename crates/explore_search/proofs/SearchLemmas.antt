@@ -1,5 +1,5 @@
 -- Keys, and the places that they stand for, as they grow.
-use Rattle.std.proofs.Common.{◌≡◌, ◌≢◌, ℕ, zero, suc, ◌+◌, ◌-◌, ◌<◌, ◌≤◌, Bool, false, List, [], ◌∷◌, ◌++◌, reverse, get_or, length, map, Option, Some, None, refl, ap, sym, ◌∙◌, subst, arith, inl, inr, ◌⊎◌}
+use Rattle.std.proofs.Common.{◌≡◌, ◌≢◌, ℕ, zero, suc, ◌+◌, ◌-◌, ◌<◌, ◌≤◌, Bool, true, false, List, [], ◌∷◌, ◌++◌, reverse, get_or, length, map, Option, Some, None, refl, ap, sym, ◌∙◌, subst, arith, inl, inr, ◌⊎◌}
 use Rattle.std.specs.List.{All, Contains, slice_get}
 use Rattle.std.specs.Option.{option_map}
 use Rattle.std.proofs.lemmas.List.{append-nil, length-append, length-map, length-reverse, reverse-append, get_or-reverse}
@@ -21,6 +21,9 @@ reached_last : (p : Place) (list : List Choice) (c : Choice) → place_reached p
 unfolding place_reached
 reached_last p [] c = refl
 reached_last p (d ∷ list) c = reached_last (place_after p d) list c
+
+pub length_pushed : {X : Type 0} (xs more : List X) (x : X) → more ≡ xs ++ x ∷ [] → length more ≡ length xs + 1
+length_pushed xs more x is = ap length is ∙ length-append xs (x ∷ [])
 
 same_at : {X : Type 0} (xs : List X) (k : ℕ) (x y : X) → slice_get xs k ≡ Some x → slice_get xs k ≡ Some y → x ≡ y
 same_at xs k x y e f = cc
@@ -64,6 +67,10 @@ abbrev pub Added : List (List ℕ) → List (List ℕ) → List ℕ → ℕ → 
 Added keys longer key number = ((slice_get keys number ≡ Some key) × (longer ≡ keys))
     ⊎ ((number ≡ length keys) × (Contains keys key → ⊥) × (longer ≡ keys ++ key ∷ []))
 
+pub added_as : (keys longer : List (List ℕ)) (read key : List ℕ) (number : ℕ) → read ≡ key → Added keys longer read number
+    → Added keys longer key number
+added_as keys longer read key number same added = subst (λ k. Added keys longer k number) same added
+
 pub first_added : (keys longer : List (List ℕ)) (key : List ℕ) (number : ℕ) → keys ≡ [] → Added keys longer key number → longer ≡ key ∷ []
 first_added keys longer key number none added = elim added [
   | inl old ↦ absurd (let gone : ◌≡◌ {A = Option (List ℕ)} None (Some key) = ap (λ ks. slice_get ks number) (sym none) ∙ old.0 in cc)
@@ -92,6 +99,15 @@ reached_first IsKey place start choices key keys links link keys_are links_are i
     subst (λ ks. AreReached IsKey place start choices ks links) (sym keys_are)
     (subst (AreReached IsKey place start choices (key ∷ [])) (sym links_are) (reached_one IsKey place start choices key link is begins differ))
 
+-- ---- one choice, by its number
+-- it leads from a place to another
+abbrev pub LeadsBy : List Choice → ℕ → Place → Place → Type 0
+LeadsBy choices turn p q = (c : Choice) → slice_get choices turn ≡ Some c → q ≡ place_after p c
+
+pub leads_by : (choices : List Choice) (turn : ℕ) (d : Choice) (p q : Place) → q ≡ place_after p (get_or choices turn d)
+    → LeadsBy choices turn p q
+leads_by choices turn d p q is c e = is ∙ ap (place_after p) (get_or_from_slice_get choices turn c d e)
+
 -- ---- what stands for places may grow
 module _ (IsKey IsKeyLater : List ℕ → Type 0) (place later : List ℕ → Place)
     (kept : (k : List ℕ) → IsKey k → IsKeyLater k × (later k ≡ place k)) where
@@ -100,6 +116,7 @@ module _ (IsKey IsKeyLater : List ℕ → Type 0) (place later : List ℕ → Pl
       → IsReached place choices keys links k → IsReached later choices longer others k
   link_stays choices keys longer links others k are keys_go links_go r = record {
     link = r.link;
+    choice = r.choice;
     there = get_later links others k r.link links_go r.there;
     key = r.key;
     this = get_later keys longer k r.key keys_go r.this;
@@ -108,7 +125,7 @@ module _ (IsKey IsKeyLater : List ℕ → Type 0) (place later : List ℕ → Pl
     earlier = r.earlier;
     meant = r.meant;
     is = (kept r.key (are k r.key r.this)).1 ∙ r.is
-        ∙ ap (λ p. place_after p r.link.choice) (sym (kept r.from (are r.link.from r.from r.before)).1);
+        ∙ ap (λ p. place_after p r.choice) (sym (kept r.from (are r.link.from r.from r.before)).1);
   }
 
   seen_stays : (keys more : List (List ℕ)) (p : Place) → ((i : ℕ) (key : List ℕ) → slice_get keys i ≡ Some key → IsKey key)
@@ -137,7 +154,7 @@ module _ (IsKey IsKeyLater : List ℕ → Type 0) (place later : List ℕ → Pl
   pub reached_more : (first : Place) (choices : List Choice) (keys : List (List ℕ)) (links : List Link)
       → KeysDiffer IsKeyLater later → AreReached IsKey place first choices keys links → (key from : List ℕ) (link : Link)
       → (Contains keys key → ⊥) → IsKeyLater key
-      → slice_get keys link.from ≡ Some from → Contains choices link.choice → later key ≡ place_after (place from) link.choice
+      → slice_get keys link.from ≡ Some from → link.turn < length choices → LeadsBy choices link.turn (place from) (later key)
       → AreReached IsKeyLater later first choices (keys ++ key ∷ []) (links ++ link ∷ [])
   reached_more first choices keys links differ r key from link new_one is there meant leads = record {
     are = λ k x e. elim (get_either keys key x k e) [
@@ -152,17 +169,19 @@ module _ (IsKey IsKeyLater : List ℕ → Type 0) (place later : List ℕ → Pl
     ways = λ k h. elim (either_below k (length keys) (let e = length-append keys (key ∷ []) in omega (arith, h, e))) [
       | inl below ↦ link_stays choices keys (keys ++ key ∷ []) links (links ++ link ∷ []) (k + 1) r.are (key ∷ [], refl) (link ∷ [], refl)
           (r.ways k below)
-      | inr last ↦ subst (IsReached later choices (keys ++ key ∷ []) (links ++ link ∷ [])) (sym last) (record {
-        link = link;
-        there = subst (λ n. slice_get (links ++ link ∷ []) n ≡ Some link) r.even (get_behind links link);
-        key = key;
-        this = get_behind keys key;
-        from = from;
-        before = get_begun keys (key ∷ []) link.from from there;
-        earlier = slice_get_within keys link.from from there;
-        meant = meant;
-        is = leads ∙ ap (λ p. place_after p link.choice) (sym (kept from (r.are link.from from there)).1);
-      })
+      | inr last ↦ let turn = get_there choices link.turn meant in
+          subst (IsReached later choices (keys ++ key ∷ []) (links ++ link ∷ [])) (sym last) (record {
+            link = link;
+            choice = turn.0;
+            there = subst (λ n. slice_get (links ++ link ∷ []) n ≡ Some link) r.even (get_behind links link);
+            key = key;
+            this = get_behind keys key;
+            from = from;
+            before = get_begun keys (key ∷ []) link.from from there;
+            earlier = slice_get_within keys link.from from there;
+            meant = turn.1;
+            is = leads turn.0 turn.1 ∙ ap (λ p. place_after p turn.0) (sym (kept from (r.are link.from from there)).1);
+          })
     ];
   }
 
@@ -178,7 +197,7 @@ module _ (IsKey IsKeyLater : List ℕ → Type 0) (place later : List ℕ → Pl
 
   pub see_new : (first : Place) (choices : List Choice) (keys longer : List (List ℕ)) (links others : List Link)
       → KeysDiffer IsKeyLater later → AreReached IsKey place first choices keys links → (key from : List ℕ) (link : Link) (number : ℕ) → IsKeyLater key
-      → slice_get keys link.from ≡ Some from → Contains choices link.choice → later key ≡ place_after (place from) link.choice
+      → slice_get keys link.from ≡ Some from → link.turn < length choices → LeadsBy choices link.turn (place from) (later key)
       → Added keys longer key number → number ≡ length links → others ≡ links ++ link ∷ []
       → AreReached IsKeyLater later first choices longer others
   see_new first choices keys longer links others differ r key from link number is there meant leads added last pushed = elim added [
@@ -208,17 +227,15 @@ module _ (IsKey IsKeyLater : List ℕ → Type 0) (place later : List ℕ → Pl
 
   -- one choice more was taken from a key
   pub seen_step : (choices : List Choice) (keys longer : List (List ℕ)) → GoesOn keys longer
-      → ((i : ℕ) (k : List ℕ) → slice_get keys i ≡ Some k → IsKey k) → (key : List ℕ) → IsKey key → (i : ℕ) (c : Choice)
-      → slice_get choices i ≡ Some c
+      → ((i : ℕ) (k : List ℕ) → slice_get keys i ≡ Some k → IsKey k) → (key : List ℕ) → IsKey key → (i : ℕ)
       → ((k : ℕ) (d : Choice) → k < i → slice_get choices k ≡ Some d → IsSeen place keys (place_after (place key) d))
-      → IsSeen later longer (place_after (place key) c)
+      → ((d : Choice) → slice_get choices i ≡ Some d → IsSeen later longer (place_after (place key) d))
       → (k : ℕ) (d : Choice) → k < i + 1 → slice_get choices k ≡ Some d → IsSeen later longer (place_after (later key) d)
-  seen_step choices keys longer begins are key is i c at_i before now k d h e =
+  seen_step choices keys longer begins are key is i before now k d h e =
       subst (λ p. IsSeen later longer (place_after p d)) (sym (kept key is).1) (elim (below_or k i h) [
         | inl below ↦ subst (λ ks. IsSeen later ks (place_after (place key) d)) (sym begins.1)
             (seen_stays keys begins.0 (place_after (place key) d) are (before k d below e))
-        | inr here ↦ subst (λ x. IsSeen later longer (place_after (place key) x))
-            (same_at choices i c d at_i (ap (slice_get choices) (sym here) ∙ e)) now
+        | inr here ↦ now d (ap (slice_get choices) (sym here) ∙ e)
       ])
 
   -- what was done stays done
@@ -273,7 +290,8 @@ module _ (IsKey : List ℕ → Type 0) (place : List ℕ → Place) (start : Pla
       let earlier = way.earlier in
       let before = led_below n way.link.from way.from (omega (arith, earlier, h)) way.before in
       subst (λ x. IsLedTo choices start (place x)) (same_at keys (k + 1) way.key key way.this (ap (slice_get keys) at ∙ e))
-      (led_further choices start (place way.from) (place way.key) way.link.choice before way.meant way.is)
+      (led_further choices start (place way.from) (place way.key) way.choice before
+      (contains_at choices way.link.turn way.choice way.meant) way.is)
 
   -- the keys' places differ, and lists of choices lead to them
   keys_apart : AreApart choices start (map place keys)
@@ -368,6 +386,11 @@ pub more_are_counted : {IsKey : List ℕ → Type 0} {place : List ℕ → Place
 more_are_counted {IsKey} {place} {begun} {start} {choices} {keys} {links} {most} r first more =
     subst (λ p. HasMorePlaces choices p most) first (more_counted IsKey place begun choices keys links r most more)
 
+-- what is read in a buffer is bad where its key is
+pub bad_by : (bad : Place → Bool) (place : List ℕ → Place) (read key : List ℕ) (answer : Bool) → read ≡ key
+    → answer ≡ bad (place read) → answer ≡ true → bad (place key) ≡ true
+bad_by bad place read key answer same is yes_ = subst (λ k. bad (place k) ≡ true) same (sym is ∙ yes_)
+
 -- ---- the way back
 pub All-reverse : {X : Type 0} (P : X → Type 0) (xs : List X) → All P xs → All P (reverse xs)
 All-reverse P xs all = λ k d h.
@@ -407,16 +430,24 @@ module _ (IsKey : List ℕ → Type 0) (place : List ℕ → Place) (first : Pla
   pub back_less : link.from < at
   back_less = subst (λ (l : Link). l.from < at) link_is way.earlier
 
-  pub back_meant : Contains choices link.choice
-  back_meant = subst (λ (l : Link). Contains choices l.choice) link_is way.meant
+  turn_is : slice_get choices link.turn ≡ Some way.choice
+  turn_is = subst (λ (l : Link). slice_get choices l.turn ≡ Some way.choice) link_is way.meant
 
-  pub back_leads : (number : ℕ) (path more : List Choice) → LeadsOn place keys at number path → more ≡ path ++ link.choice ∷ []
-      → LeadsOn place keys link.from number more
+  pub back_turn : link.turn < length choices
+  back_turn = slice_get_within choices link.turn way.choice turn_is
+
+  pub back_meant : (d : Choice) → Contains choices (get_or choices link.turn d)
+  back_meant d = Contains-get_or choices link.turn d back_turn
+
+  pub back_leads : (number : ℕ) (path more : List Choice) (d : Choice) → LeadsOn place keys at number path
+      → more ≡ path ++ get_or choices link.turn d ∷ [] → LeadsOn place keys link.from number more
   unfolding place_reached
-  back_leads number path more leads pushed here key e f =
+  back_leads number path more d leads pushed here key e f =
+      let choice = get_or choices link.turn d in
+      let choice_is : choice ≡ way.choice = get_or_from_slice_get choices link.turn way.choice d turn_is in
       let from_is : way.from ≡ here = same_at keys link.from way.from here
       (subst (λ (l : Link). slice_get keys l.from ≡ Some way.from) link_is way.before) e in
-      let step_is : place_after (place here) link.choice ≡ place way.key
-      = ap (λ k. place_after (place k) link.choice) (sym from_is) ∙ ap (λ (l : Link). place_after (place way.from) l.choice) (sym link_is) ∙ sym way.is in
-      ap (λ p. place_reached (place here) (reverse p)) pushed ∙ ap (place_reached (place here)) (reverse-append path (link.choice ∷ []))
+      let step_is : place_after (place here) choice ≡ place way.key
+      = ap (λ k. place_after (place k) choice) (sym from_is) ∙ ap (place_after (place way.from)) choice_is ∙ sym way.is in
+      ap (λ p. place_reached (place here) (reverse p)) pushed ∙ ap (place_reached (place here)) (reverse-append path (choice ∷ []))
       ∙ ap (λ p. place_reached p (reverse path)) step_is ∙ leads way.key key way.this f

@@ -23,14 +23,15 @@ pub record IsSeen (place : List ℕ → Place) (keys : List (List ℕ)) (p : Pla
 -- key number k is there by a choice from an earlier one
 pub record IsReached (place : List ℕ → Place) (choices : List Choice) (keys : List (List ℕ)) (links : List Link) (k : ℕ) : Type 0 where
   pub link : Link
+  pub choice : Choice
   pub key : List ℕ
   pub from : List ℕ
   pub there : slice_get links k ≡ Some link
   pub this : slice_get keys k ≡ Some key
   pub earlier : link.from < k
   pub before : slice_get keys link.from ≡ Some from
-  pub meant : Contains choices link.choice
-  pub is : place key ≡ place_after (place from) link.choice
+  pub meant : slice_get choices link.turn ≡ Some choice
+  pub is : place key ≡ place_after (place from) choice
 
 -- the keys stand for different places, the first of them for the first place, and each other one
 -- for a place that a choice leads to

@@ -26,7 +26,7 @@ pub enum Found<A: Allocator> {
     Undecided,
 }
 
-// Sees what follows a key, and makes the row of its place.
+// Sees what follows a key, and makes the row of its place. `next` is room for a key.
 fn see_next<A: Allocator, S: Space<A>>(
     space: &mut S,
     choices: &[Choice],
@@ -34,6 +34,7 @@ fn see_next<A: Allocator, S: Space<A>>(
     key: &[u32],
     from: usize,
     row: &mut Vec<u32, A>,
+    next: &mut Vec<u32, A>,
 ) -> Result<(), AllocError>
     requires reached { AreReached (S.is_key space.old) (S.place space.old) (S.first space.old) choices.now
         seen.old.keys seen.old.links.items }
@@ -58,19 +59,19 @@ fn see_next<A: Allocator, S: Space<A>>(
         row.new.items) }
 {
     row.clear();
-    if from > 0xffff_ffff {
+    if from > 0xffff_ffff || choices.len() > 0xffff_ffff {
         return Err(AllocError);
     }
     let Some(steps) = seen.links[from].steps.checked_add(1) else {
         return Err(AllocError);
     };
-    'choices: for choice in choices {
+    'choices: for turn in 0..choices.len() {
         let link = Link {
             from: from as u32,
             steps,
-            choice: *choice,
+            turn: turn as u32,
         };
-        let to = seen.see_after(space, choices, key, link)?;
+        let to = seen.see_after(space, choices, key, link, next)?;
         if to > 0xffff_ffff {
             return Err(AllocError);
         }
@@ -97,15 +98,12 @@ fn see_first<A: Allocator + Copy, S: Space<A>>(
     let _ = choices;
     let first = space.first_key()?;
     let mut keys = Table::new(alloc, buckets)?;
-    keys.add(first)?;
+    keys.add(&first)?;
     let mut links = Vec::new(alloc);
     links.push(Link {
         from: 0,
         steps: 0,
-        choice: Choice {
-            hart: 0,
-            refuse: false,
-        },
+        turn: 0,
     })?;
     Ok(Seen {
         keys,
@@ -114,9 +112,22 @@ fn see_first<A: Allocator + Copy, S: Space<A>>(
     })
 }
 
+// Writes a key into `key`, whatever stood there.
+fn read_key<A: Allocator>(
+    seen: &Seen<A>,
+    number: usize,
+    key: &mut Vec<u32, A>,
+) -> Result<(), AllocError>
+    requires { number < length seen.now.keys }
+    ensures { OnOk result (slice_get seen.now.keys number ≡ Some key.new.items) }
+{
+    key.clear();
+    key.extend_from_slice(seen.keys.key(number))
+}
+
 /// Looks at every place that a list of the choices leads to, nearest first, each once, and at
 /// `most` of them at most, and reports after each how many these are. 2^32 places or more are
-/// answered as want of memory.
+/// answered as want of memory, and so are 2^32 choices or more.
 pub fn search<A: Allocator + Copy, S: Space<A>>(
     alloc: A,
     space: &mut S,
@@ -136,19 +147,21 @@ pub fn search<A: Allocator + Copy, S: Space<A>>(
     ensures bad { OnOk result (S.bad space.new ≡ S.bad space.old) }
 {
     let mut seen = see_first(alloc, space, choices, 1024)?;
+    let mut key = Vec::new(alloc);
     let mut row = Vec::new(alloc);
+    let mut next = Vec::new(alloc);
     'places: for from in 0..most {
         let count = seen.keys.len();
         if from >= count {
             return Ok(Found::Safe(seen));
         }
-        let key = Vec::from_slice(alloc, seen.keys.key(from))?;
+        read_key(&seen, from, &mut key)?;
         let is_bad = space.is_bad(&key)?;
         if is_bad {
             return Ok(Found::Bad(seen.path_to(alloc, space, choices, from)?));
         }
         let depth = u64::from(seen.links[from].steps);
-        see_next(space, choices, &mut seen, &key, from, &mut row)?;
+        see_next(space, choices, &mut seen, &key, from, &mut row, &mut next)?;
         keep_row(&mut seen.rows, edges, &row)?;
         progress.worlds_done(from as u64 + 1, seen.keys.len() as u64, depth);
     }

@@ -1,5 +1,5 @@
 //! Places under keys.
-ghost use Rattle.std.specs.Prelude.{◌≡◌, ℕ, Bool, List, IfOk};
+ghost use Rattle.std.specs.Prelude.{◌≡◌, ℕ, Bool, List, IfOk, OnOk};
 ghost use Rattle.explore_laws.specs.Places.{Place, place_after};
 ghost use Rattle.explore_search.specs.Searched.{KeysDiffer};
 
@@ -31,11 +31,16 @@ pub trait Space<A: Allocator> {
         ensures first { first self.new ≡ first self.old }
         ensures bad { bad self.new ≡ bad self.old };
 
-    /// The key of the place that is one choice further.
-    fn key_after(&mut self, key: &[u32], choice: Choice) -> Result<Vec<u32, A>, AllocError>
+    /// Writes the key of the place that is one choice further into `next`, whatever stood there.
+    fn key_after(
+        &mut self,
+        key: &[u32],
+        choice: Choice,
+        next: &mut Vec<u32, A>,
+    ) -> Result<(), AllocError>
         requires { is_key self.old key.now }
-        ensures key { IfOk result (λ k. is_key self.new k.items
-            × (place self.new k.items ≡ place_after (place self.old key.now) choice)) }
+        ensures key { OnOk result (is_key self.new next.new.items
+            × (place self.new next.new.items ≡ place_after (place self.old key.now) choice)) }
         ensures kept { (k : List ℕ) → is_key self.old k → is_key self.new k × (place self.new k ≡ place self.old k) }
         ensures differ { KeysDiffer (is_key self.new) (place self.new) }
         ensures first { first self.new ≡ first self.old }

@@ -13,7 +13,6 @@ const BUCKETS: usize = 64;
 /// whoever asks looks at what it leads to. Whether a hash was given one is promised.
 #[derive(Drop)]
 pub struct Hints<A: Allocator> {
-    alloc: A,
     hashes: Table<A>,
     numbers: Vec<usize, A>,
 }
@@ -32,7 +31,6 @@ impl<A: Allocator + Copy> Hints<A> {
     /// No hint. Fails when out of memory.
     pub fn new(alloc: A) -> Result<Hints<A>, AllocError> {
         Ok(Hints {
-            alloc,
             hashes: Table::new(alloc, BUCKETS)?,
             numbers: Vec::new(alloc),
         })
@@ -55,9 +53,8 @@ impl<A: Allocator + Copy> Hints<A> {
             self.numbers[at] = number;
             return Ok(());
         }
-        let row = Vec::from_slice(self.alloc, &hash)?;
         self.numbers.push(number)?;
-        if self.hashes.add(row).is_err() {
+        if self.hashes.add(&hash).is_err() {
             self.numbers.pop();
             return Err(AllocError);
         }

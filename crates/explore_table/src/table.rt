@@ -92,14 +92,14 @@ impl<A: Allocator> Table<A> {
     }
 
     /// The number of a key, which is kept from now on. A refusal changes nothing.
-    pub fn add(&mut self, key: Vec<u32, A>) -> Result<usize, AllocError>
+    pub fn add(&mut self, key: &[u32]) -> Result<usize, AllocError>
         ensures number { IfOk result (λ number.
-            ((slice_get self.old number ≡ Some key.items) × (self.new ≡ self.old))
-            ⊎ ((number ≡ length self.old) × (Contains self.old key.items → ⊥)
-            × (self.new ≡ self.old ++ key.items ∷ []))) }
+            ((slice_get self.old number ≡ Some key.now) × (self.new ≡ self.old))
+            ⊎ ((number ≡ length self.old) × (Contains self.old key.now → ⊥)
+            × (self.new ≡ self.old ++ key.now ∷ []))) }
         ensures err { OnErr result (self.new ≡ self.old) }
     {
-        if let Some(number) = self.find(&key) {
+        if let Some(number) = self.find(key) {
             return Ok(number);
         }
         self.make_room()?;
@@ -108,10 +108,10 @@ impl<A: Allocator> Table<A> {
             return Err(AllocError);
         }
         let buckets = self.heads.len();
-        let bucket = bucket_of(&key, buckets);
+        let bucket = bucket_of(key, buckets);
         let before = self.heads[bucket];
         self.befores.push(before)?;
-        if self.rows.push(&key).is_err() {
+        if self.rows.push(key).is_err() {
             self.befores.pop();
             return Err(AllocError);
         }

@@ -1,6 +1,5 @@
 use Rattle.std.proofs.Common.{arith}
-use Rattle.std.proofs.lemmas.Option.{slice_get-get_or}
-use Rattle.explore_search.proofs.MarkLemmas.{leads_there, leads_nowhere, none_more}
+use Rattle.explore_search.proofs.MarkLemmas.{leads_nowhere}
 use Rattle.explore_search.proofs.marking.leads_to_marked.Goals as goal
 
 pub returns : goal.returns

@@ -1,4 +1,4 @@
-use Rattle.std.proofs.Common.{◌≡◌, sym, subst, ◌∙◌}
+use Rattle.std.proofs.Common.{sym, subst, ◌∙◌}
 use Rattle.explore_search.specs.Marked.{AllBelow}
 use Rattle.explore_search.proofs.MarkLemmas.{pass_smaller, shut_after}
 use Rattle.explore_search.proofs.marking.mark_all.Goals as goal

@@ -1,4 +1,4 @@
-use Rattle.std.proofs.Common.{◌≡◌, ◌+◌, ◌∷◌, [], ap, ◌∙◌, length}
+use Rattle.std.proofs.Common.{◌+◌, ◌∷◌, [], ap, ◌∙◌, length}
 use Rattle.std.proofs.lemmas.List.{length-append}
 use Rattle.explore_search.proofs.MarkLemmas.{ended_more}
 use Rattle.explore_search.proofs.marking.mark_ended.Goals as goal

@@ -1,4 +1,4 @@
-use Rattle.std.proofs.Common.{◌≡◌, ◌+◌, ◌-◌, arith, length, refl, subst, sym, ◌∙◌, inl, inr}
+use Rattle.std.proofs.Common.{◌+◌, ◌-◌, arith, length, refl, subst, sym, ◌∙◌, inl, inr}
 use Rattle.explore_search.specs.Marked.{AreBelow}
 use Rattle.explore_search.proofs.MarkLemmas.{one_stays, one_ways, pass_begins, pass_ends, pass_one}
 use Rattle.explore_search.proofs.marking.mark_more.Goals.{then-mark_one, else-mark_one}

@@ -1,6 +1,5 @@
 use Rattle.std.proofs.Common.{◌≡◌, ℕ, ◌<◌, Bool, true, false, List, length, Some, ap, subst, sym, ◌∙◌}
 use Rattle.std.specs.List.{slice_get}
-use Rattle.explore_laws.specs.Places.{place_reached}
 use Rattle.explore_search.specs.Marked.{AllBelow, HaveMarkedWaysOut, MarksStay}
 use Rattle.explore_search.proofs.EdgeLemmas.{edges_below}
 use Rattle.explore_search.proofs.MarkLemmas.{all_have_ways, all_written, ended_ways, is_stuck}

@@ -1,12 +1,12 @@
-use Rattle.std.proofs.Common.{◌≡◌, ◌∙◌, ◌+◌, true, arith, subst, sym, ap}
+use Rattle.std.proofs.Common.{◌∙◌, ◌+◌, arith, subst, sym, ap}
 use Rattle.std.proofs.lemmas.Option.{slice_get_within}
 use Rattle.explore_laws.specs.Places.{place_reached}
 use Rattle.explore_search.specs.Rows.{CountsRows, KeepsRow}
 use Rattle.explore_search.specs.Searched.{AreReached, AreDone}
-use Rattle.explore_search.proofs.SearchLemmas.{closed_is_safe, closed_is_all, closed_is_counted, more_are_counted}
+use Rattle.explore_search.proofs.SearchLemmas.{bad_by, closed_is_safe, closed_is_all, closed_is_counted, more_are_counted}
 use Rattle.explore_table.proofs.ListLemmas.{get_there}
 use Rattle.explore_search.proofs.NearLemmas.{closed_is_seen, none_shorter}
-use Rattle.explore_search.proofs.EdgeLemmas.{closed_leads, counts_few, counts_kept, counts_none, edges_kept, edges_none}
+use Rattle.explore_search.proofs.EdgeLemmas.{closed_leads, counts_few, counts_kept, edges_kept}
 use Rattle.explore_search.proofs.searching.search.Goals as goal
 
 pub returns-then-from-count-clause-answers : goal.returns-then-from-count-clause-answers
@@ -29,9 +29,9 @@ returns-then-from-count-clause-reaches g c =
 
 pub returns-then-is_bad-clause-answers : goal.returns-then-is_bad-clause-answers
 returns-then-is_bad-clause-answers g c =
-    let key_is : c.deref.result.now ≡ c.key.result.now = c.deref.ensures.value ∙ c.in_ok-key.ensures.items in
-    let bad_here : g.S.Space.bad c.places.space (g.S.Space.place c.places.space c.key.result.now) ≡ true
-    = ap (λ k. g.S.Space.bad c.places.space (g.S.Space.place c.places.space k)) (sym key_is) ∙ sym c.in_ok-is_bad.ensures ∙ c.if-is_bad.true in
+    let key = c.read_key.new.key.items in
+    let bad_here = bad_by (g.S.Space.bad c.places.space) (g.S.Space.place c.places.space) c.deref.result.now key c.in_ok-is_bad.is_bad
+    c.deref.ensures.value c.in_ok-is_bad.ensures c.if-is_bad.true in
     record {
       meant = c.in_ok-path_to.ensures.meant;
       shortest = λ other all less.
@@ -48,8 +48,8 @@ returns-then-is_bad-clause-answers g c =
           (subst (λ bad. AreDone (g.S.Space.place c.places.space) bad c.args.choices.now c.places.seen.keys c.places.from)
           c.places.invariant.bad c.places.invariant.done) other all (omega (arith, less, steps));
       ends = ap (λ f. g.S.Space.bad c.args.space.now (place_reached f c.in_ok-path_to.field-0.items)) (sym c.places.invariant.first)
-          ∙ ap (g.S.Space.bad c.args.space.now) (c.in_ok-path_to.ensures.leads c.key.result.now c.key.ensures)
-          ∙ ap (λ b. b (g.S.Space.place c.places.space c.key.result.now)) (sym c.places.invariant.bad) ∙ bad_here;
+          ∙ ap (g.S.Space.bad c.args.space.now) (c.in_ok-path_to.ensures.leads key c.in_ok-read_key.ensures)
+          ∙ ap (λ b. b (g.S.Space.place c.places.space key)) (sym c.places.invariant.bad) ∙ bad_here;
     }
 
 pub returns-then-found-most-clause-answers : goal.returns-then-found-most-clause-answers

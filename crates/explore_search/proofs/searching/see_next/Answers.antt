@@ -1,14 +1,13 @@
 use Rattle.std.proofs.Common.{◌∙◌, ◌+◌, ℕ, arith, length, subst, sym, ap, List}
 use Rattle.std.specs.List.{slice_get}
-use Rattle.std.proofs.lemmas.List.{length-append}
-use Rattle.std.proofs.lemmas.Option.{slice_get_within, slice_get-get_or}
+use Rattle.std.proofs.lemmas.Option.{slice_get_within}
 use Rattle.explore_laws.specs.Places.{place_after}
 use Rattle.explore_table.proofs.ListLemmas.{get_there}
 use Rattle.explore_search.specs.Edges.{AreEdges}
 use Rattle.explore_search.specs.Searched.{AreReached, AreDone, IsSoon}
 use Rattle.explore_search.specs.declared.seen.Link.{Link}
 use Rattle.explore_search.proofs.NearLemmas.{soons_stay, soon_step, soons_more, rising_next}
-use Rattle.explore_search.proofs.SearchLemmas.{get_later, old_at, seen_step, done_later, done_more}
+use Rattle.explore_search.proofs.SearchLemmas.{get_later, old_at, seen_step, done_later, done_more, length_pushed}
 use Rattle.explore_search.proofs.EdgeLemmas.{edges_stay, lead_more}
 use Rattle.explore_search.proofs.searching.see_next.Goals as goal
 
@@ -29,7 +28,7 @@ choices-preserved g c =
       same = (c.in_ok-to.ensures.kept c.args.key.now is).1 ∙ c.choices.invariant.same;
       seen = seen_step (g.S.Space.is_key c.choices.space) (g.S.Space.is_key c.see_after.new.space) (g.S.Space.place c.choices.space)
           (g.S.Space.place c.see_after.new.space) c.in_ok-to.ensures.kept c.args.choices.now c.choices.seen.keys
-          c.see_after.new.self.keys c.in_ok-to.ensures.begins are c.args.key.now is c.choices.choice-index _ (slice_get-get_or c.args.choices.now c.choices.choice-index _ c.choices-test.true) c.choices.invariant.seen
+          c.see_after.new.self.keys c.in_ok-to.ensures.begins are c.args.key.now is c.choices.turn c.choices.invariant.seen
           c.in_ok-to.ensures.seen;
       rising = c.in_ok-to.ensures.rising;
       soon = soons_stay (g.S.Space.is_key c.choices.space) (g.S.Space.is_key c.see_after.new.space) (g.S.Space.place c.choices.space)
@@ -46,8 +45,7 @@ choices-preserved g c =
       seen_soon = soon_step (g.S.Space.is_key c.choices.space) (g.S.Space.is_key c.see_after.new.space) (g.S.Space.place c.choices.space)
           (g.S.Space.place c.see_after.new.space) c.in_ok-to.ensures.kept c.args.choices.now c.choices.seen.keys
           c.see_after.new.self.keys c.choices.seen.links.items c.see_after.new.self.links.items _ c.in_ok-to.ensures.begins
-          c.in_ok-to.ensures.links_begin are c.args.key.now is c.choices.choice-index _
-          (slice_get-get_or c.args.choices.now c.choices.choice-index _ c.choices-test.true) c.choices.invariant.seen_soon
+          c.in_ok-to.ensures.links_begin are c.args.key.now is c.choices.turn c.choices.invariant.seen_soon
           c.in_ok-to.ensures.soon;
       first = c.in_ok-to.ensures.first ∙ c.choices.invariant.first;
       bad = c.in_ok-to.ensures.bad ∙ c.choices.invariant.bad;
@@ -61,12 +59,11 @@ choices-preserved g c =
           (let w = slice_get_within c.choices.seen.keys c.args.from c.args.key.now c.choices.invariant.there in omega (arith, w))
           c.choices.invariant.edges);
       rows = c.in_ok-to.ensures.rows ∙ c.choices.invariant.rows;
-      count = ap length c.in_ok-push.ensures.items ∙ length-append c.choices.row.items _ ∙ ap (λ n. n + 1) c.choices.invariant.count;
+      count = length_pushed c.choices.row.items c.push.new.self.items _ c.in_ok-push.ensures.items ∙ ap (λ n. n + 1) c.choices.invariant.count;
       lead = lead_more (g.S.Space.is_key c.choices.space) (g.S.Space.is_key c.see_after.new.space) (g.S.Space.place c.choices.space)
           (g.S.Space.place c.see_after.new.space) c.in_ok-to.ensures.kept c.args.choices.now c.choices.seen.keys
           c.see_after.new.self.keys c.in_ok-to.ensures.begins are c.args.key.now c.choices.row.items c.push.new.self.items c.in_ok-to.to
-          c.choices.choice-index _ is c.choices.invariant.count
-          (slice_get-get_or c.args.choices.now c.choices.choice-index _ c.choices-test.true) c.choices.invariant.lead
+          c.choices.turn is c.choices.invariant.count c.choices.invariant.lead
           c.in_ok-to.ensures.number c.in_ok-push.ensures.items;
     }
 

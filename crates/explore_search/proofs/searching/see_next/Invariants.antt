@@ -15,17 +15,17 @@ invariant-choices g l = record {
   done : AreDone (g.S.Space.place l.space) (g.S.Space.bad l.space) l.choices l.seen.keys l.from;
   there : slice_get l.seen.keys l.from ≡ Some l.key;
   same : g.S.Space.place l.space l.key ≡ g.S.Space.place l.fn.space l.key;
-  seen : (k : ℕ) (c : Choice) → k < l.choice-index → slice_get l.choices k ≡ Some c
+  seen : (k : ℕ) (c : Choice) → k < l.turn → slice_get l.choices k ≡ Some c
       → IsSeen (g.S.Space.place l.space) l.seen.keys (place_after (g.S.Space.place l.space l.key) c);
   rising : AreRising l.seen.links.items l.from;
   soon : AreSoon (g.S.Space.place l.space) l.choices l.seen.keys l.seen.links.items l.from;
   step : (a : Link) → slice_get l.seen.links.items l.from ≡ Some a → l.steps ≡ a.steps + 1;
-  seen_soon : (k : ℕ) (c : Choice) → k < l.choice-index → slice_get l.choices k ≡ Some c
+  seen_soon : (k : ℕ) (c : Choice) → k < l.turn → slice_get l.choices k ≡ Some c
       → IsSoon (g.S.Space.place l.space) l.seen.keys l.seen.links.items l.steps (place_after (g.S.Space.place l.space l.key) c);
   first : g.S.Space.first l.space ≡ g.S.Space.first l.fn.space;
   bad : g.S.Space.bad l.space ≡ g.S.Space.bad l.fn.space;
   edges : AreEdges (g.S.Space.place l.space) l.choices l.seen.keys l.seen.rows;
   rows : l.seen.rows ≡ l.fn.seen.rows;
-  count : length l.row.items ≡ l.choice-index;
+  count : length l.row.items ≡ l.turn;
   lead : Lead (g.S.Space.place l.space) l.choices l.seen.keys (g.S.Space.place l.space l.key) l.row.items;
 }

@@ -1,10 +1,10 @@
-use Rattle.std.proofs.Common.{◌∙◌, [], ◌∷◌, refl, ap, arith, length}
+use Rattle.std.proofs.Common.{◌∙◌, refl, ap, arith, length}
 use Rattle.std.specs.List.{Contains}
 use Rattle.std.proofs.lemmas.List.Elements.{All-nil, All-push}
-use Rattle.std.proofs.lemmas.List.{length-append, length-reverse}
+use Rattle.std.proofs.lemmas.List.{length-reverse}
 use Rattle.std.proofs.lemmas.Option.{slice_get_read}
 use Rattle.explore_search.proofs.NearLemmas.{counts_first, counts_more, counts_all}
-use Rattle.explore_search.proofs.SearchLemmas.{leads_first, back_less, back_meant, back_leads, All-reverse}
+use Rattle.explore_search.proofs.SearchLemmas.{leads_first, back_less, back_turn, back_meant, back_leads, length_pushed, All-reverse}
 use Rattle.explore_search.proofs.seen.Seen.path_to.Goals as goal
 
 pub back-init : goal.back-init
@@ -21,6 +21,12 @@ back-smaller g c =
     c.args.self.now.keys c.args.self.now.links.items c.requires.reached c.back.at c.back-test.true c.back.invariant.within
     c.index-link.result.now c.index-link.ensures
 
+pub bounds-choices-link : goal.bounds-choices-link
+bounds-choices-link g c =
+    back_turn (g.S.Space.is_key c.args.space.now) (g.S.Space.place c.args.space.now) (g.S.Space.first c.args.space.now) c.args.choices.now
+    c.args.self.now.keys c.args.self.now.links.items c.requires.reached c.back.at c.back-test.true c.back.invariant.within
+    c.index-link.result.now c.index-link.ensures
+
 pub back-preserved : goal.back-preserved
 back-preserved g c =
     let less = back_less (g.S.Space.is_key c.args.space.now) (g.S.Space.place c.args.space.now) (g.S.Space.first c.args.space.now) c.args.choices.now
@@ -34,15 +40,14 @@ back-preserved g c =
           (let even = c.requires.reached.even in omega (arith, w, even))
           (slice_get_read c.args.self.now.links.items (length c.args.self.now.links.items) c.back.at c.index-link.result.now refl
           (let even = c.requires.reached.even in omega (arith, w, even)) c.index-link.ensures)
-          (ap length c.in_ok-push.ensures.items ∙ length-append c.back.path.items (c.index-link.result.now.choice ∷ [])) c.back.invariant.counts;
-      meant = rw c.in_ok-push.ensures.items (All-push (Contains c.args.choices.now) c.back.path.items c.index-link.result.now.choice
-          c.back.invariant.meant
+          (length_pushed c.back.path.items c.push.new.self.items _ c.in_ok-push.ensures.items) c.back.invariant.counts;
+      meant = rw c.in_ok-push.ensures.items (All-push (Contains c.args.choices.now) c.back.path.items _ c.back.invariant.meant
           (back_meant (g.S.Space.is_key c.args.space.now) (g.S.Space.place c.args.space.now) (g.S.Space.first c.args.space.now) c.args.choices.now
           c.args.self.now.keys c.args.self.now.links.items c.requires.reached c.back.at c.back-test.true c.back.invariant.within
-          c.index-link.result.now c.index-link.ensures));
+          c.index-link.result.now c.index-link.ensures _));
       leads = back_leads (g.S.Space.is_key c.args.space.now) (g.S.Space.place c.args.space.now) (g.S.Space.first c.args.space.now) c.args.choices.now
           c.args.self.now.keys c.args.self.now.links.items c.requires.reached c.back.at c.back-test.true c.back.invariant.within
-          c.index-link.result.now c.index-link.ensures c.args.number c.back.path.items c.push.new.self.items c.back.invariant.leads
+          c.index-link.result.now c.index-link.ensures c.args.number c.back.path.items c.push.new.self.items _ c.back.invariant.leads
           c.in_ok-push.ensures.items;
     }
 
