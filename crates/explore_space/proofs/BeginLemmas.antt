@@ -12,7 +12,7 @@ use Rattle.explore_table.proofs.ListLemmas.{get_either}
 use Rattle.explore_laws.specs.Places.{Place, place_begun}
 use Rattle.explore_space.specs.Begun.{begun_choices, first_steps, hart_begun, hart_settled, place_hart_begun, place_rested, runs_outside, runs_outside_there, runs_settled, world_begun}
 use Rattle.explore_space.specs.Habits.{Habits, stride_by_habit}
-use Rattle.explore_space.specs.Places.{hart_numbered, place_of_key, IsKeyOf}
+use Rattle.explore_space.specs.Places.{hart_worded, place_of_key, IsKeyOf}
 use Rattle.explore_space.specs.declared.shared.Shared.{Shared}
 use Rattle.explore_space.proofs.KeyLemmas.{hart_at}
 use Rattle.explore_space.specs.declared.section.Section.{Section}
@@ -24,7 +24,7 @@ use Rattle.explore_space.specs.Resting.{at_once, rest_steps, rested, resting_ste
 module _ {Z : Type 0} (habits : Habits) (image : ImageValue) (n : ℕ) (more_harts : List Hart) (shareds : List (Shared Z)) (p : Place) (number : ℕ)
     (low : number < n) (next : List ℕ) (is : IsKeyOf habits image n more_harts shareds next (place_rested habits.section p number)) where
   -- the hart runs outside behind its steps if the one under its new number does
-  runs_there : runs_settled habits.section p.world number ≡ runs_outside habits.section (hart_numbered more_harts (slice_index next number))
+  runs_there : runs_settled habits.section p.world number ≡ runs_outside habits.section (hart_worded more_harts (slice_index next number))
   runs_there = ap (λ (x : Place). runs_outside_there habits.section (slice_get x.world.harts number)) (sym is.1)
       ∙ ap (runs_outside_there habits.section) (hart_at image n more_harts shareds next is.0 number low)
 
@@ -36,12 +36,12 @@ module _ {Z : Type 0} (habits : Habits) (image : ImageValue) (n : ℕ) (more_har
       place_of : World → Place
       place_of x = record { stride = p.stride; world = x; chosen = p.chosen }
 
-  pub begun_here : runs_outside habits.section (hart_numbered more_harts (slice_index next number)) ≡ true
+  pub begun_here : runs_outside habits.section (hart_worded more_harts (slice_index next number)) ≡ true
       → IsKeyOf habits image n more_harts shareds next (place_hart_begun habits.section p number)
   begun_here runs = (is.0, is.1 ∙ sym (begun_by true (runs_there ∙ runs)))
 
   pub begun_not : (key : List ℕ) → IsKeyOf habits image n more_harts shareds key p
-      → runs_outside habits.section (hart_numbered more_harts (slice_index next number)) ≡ false
+      → runs_outside habits.section (hart_worded more_harts (slice_index next number)) ≡ false
       → IsKeyOf habits image n more_harts shareds key (place_hart_begun habits.section p number)
   begun_not key stays stopped = (stays.0, stays.1 ∙ sym (begun_by false (runs_there ∙ stopped)))
 

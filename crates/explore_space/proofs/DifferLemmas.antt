@@ -1,7 +1,7 @@
 -- Different keys stand for different places.
-use Rattle.std.proofs.Common.{◌≡◌, ℕ, zero, suc, ◌+◌, ◌-◌, ◌%◌, ◌<◌, ◌≤◌, ◌==◌, List, length, Option, refl, ap, sym, ◌∙◌, subst, arith, inl, inr}
+use Rattle.std.proofs.Common.{◌≡◌, ℕ, zero, suc, ◌/◌, ◌%◌, ◌<◌, ◌≤◌, ◌==◌, List, length, Option, refl, ap, sym, ◌∙◌, subst, arith, inl, inr}
 use Rattle.std.proofs.lemmas.Bool.{cases_order}
-use Rattle.std.proofs.lemmas.List.{ext_get_or}
+use Rattle.std.proofs.lemmas.List.{ext_get_or, get_or-take}
 use Rattle.std.proofs.lemmas.Option.{same_Some, get_or_from_slice_get}
 use Rattle.std.specs.List.{AllPairs, slice_get, slice_index, slice_index_or}
 use Rattle.image.specs.Image.{ImageValue}
@@ -12,9 +12,9 @@ use Rattle.explore_table.proofs.ListLemmas.{get_there}
 use Rattle.explore_laws.specs.Places.{Place}
 use Rattle.explore_search.specs.Searched.{KeysDiffer}
 use Rattle.explore_sites.specs.Cells.{words_shown}
-use Rattle.explore_space.specs.Places.{hart_in, hart_numbered, cells_in, marks_in, place_of_key, AreUnlike, HartsDiffer, IsKey}
+use Rattle.explore_space.specs.Places.{chosen_worded, hart_in, hart_numbered, hart_worded, cells_in, marks_in, place_of_key, AreUnlike, HartsDiffer, IsKey}
 use Rattle.explore_space.specs.declared.shared.Shared.{Shared}
-use Rattle.explore_space.proofs.KeyLemmas.{id_at, hart_at}
+use Rattle.explore_space.proofs.KeyLemmas.{hart_at, word_at}
 use Rattle.explore_space.specs.Habits.{Habits}
 
 -- numbers are equal where neither order can be
@@ -64,15 +64,19 @@ module _ {Z : Type 0} (image : ImageValue) (shareds : List (Shared Z)) (differ :
       same_number a b (λ less. other_shared a b less b_in marks words)
       (λ more. other_shared b a more a_in (sym marks) (λ x at. sym (words x at)))
 
--- ---- who was chosen
-same_flag : (a b : ℕ) → a ≤ 1 → b ≤ 1 → (a == 1) ≡ (b == 1) → a ≡ b
-same_flag zero zero a_low b_low same = refl
-same_flag zero (suc zero) a_low b_low same = absurd (cc)
-same_flag (suc zero) zero a_low b_low same = absurd (cc)
-same_flag (suc zero) (suc zero) a_low b_low same = refl
-same_flag (suc (suc a)) b a_low b_low same = absurd (omega (arith, a_low))
-same_flag zero (suc (suc b)) a_low b_low same = absurd (omega (arith, b_low))
-same_flag (suc zero) (suc (suc b)) a_low b_low same = absurd (omega (arith, b_low))
+-- ---- words
+same_bit : (a b : ℕ) → a ≤ 1 → b ≤ 1 → (a == 1) ≡ (b == 1) → a ≡ b
+same_bit zero zero a_low b_low same = refl
+same_bit zero (suc zero) a_low b_low same = absurd (cc)
+same_bit (suc zero) zero a_low b_low same = absurd (cc)
+same_bit (suc zero) (suc zero) a_low b_low same = refl
+same_bit (suc (suc a)) b a_low b_low same = absurd (omega (arith, a_low))
+same_bit zero (suc (suc b)) a_low b_low same = absurd (omega (arith, b_low))
+same_bit (suc zero) (suc (suc b)) a_low b_low same = absurd (omega (arith, b_low))
+
+-- a word is told by its half, and by whether it is odd
+same_word : (a b : ℕ) → a / 2 ≡ b / 2 → chosen_worded a ≡ chosen_worded b → a ≡ b
+same_word a b half odd = let rest = same_bit (a % 2) (b % 2) (omega arith) (omega arith) odd in omega (arith, half, rest)
 
 -- ---- keys
 module _ {Z : Type 0} (habits : Habits) (image : ImageValue) (n : ℕ) (harts : List Hart) (shareds : List (Shared Z)) where
@@ -83,34 +87,32 @@ module _ {Z : Type 0} (habits : Habits) (image : ImageValue) (n : ℕ) (harts : 
   Key = IsKey image n harts shareds
 
   module _ (k l : List ℕ) (is_k : Key k) (is_l : Key l) (same : place k ≡ place l) where
-    hart_same : (i : ℕ) → i < n → slice_index k i ≡ slice_index l i
+    hart_same : (i : ℕ) → i < n → slice_index k i / 2 ≡ slice_index l i / 2
     hart_same i low =
-        same_hart harts is_k.once.0 (slice_index k i) (slice_index l i)
-        (is_k.harts i (slice_index k i) (id_at image n harts shareds k is_k i low))
-        (is_l.harts i (slice_index l i) (id_at image n harts shareds l is_l i low))
-        (same_Some (hart_numbered harts (slice_index k i)) (hart_numbered harts (slice_index l i))
+        same_hart harts is_k.once.0 (slice_index k i / 2) (slice_index l i / 2)
+        (is_k.harts i (slice_index k i) (word_at image n harts shareds k is_k i low))
+        (is_l.harts i (slice_index l i) (word_at image n harts shareds l is_l i low))
+        (same_Some (hart_worded harts (slice_index k i)) (hart_worded harts (slice_index l i))
         (sym (hart_at image n harts shareds k is_k i low) ∙ ap (λ (p : Place). slice_get p.world.harts i) same
         ∙ hart_at image n harts shareds l is_l i low))
+
+    chosen_same : (i : ℕ) → i < n → chosen_worded (slice_index k i) ≡ chosen_worded (slice_index l i)
+    chosen_same i low = ap chosen_worded (sym (get_or-take n k i 0 low)) ∙ ap (λ (p : Place). p.chosen i) same
+        ∙ ap chosen_worded (get_or-take n l i 0 low)
 
     shared_same : slice_index k n ≡ slice_index l n
     shared_same = same_shared image shareds is_k.once.1.0 (slice_index k n) (slice_index l n) is_k.shared is_l.shared
         (ap (λ (p : Place). p.world.reserved) same)
         (λ x at. is_k.words x at ∙ ap (λ (p : Place). bytes_at p.world.memory.bytes x) same ∙ sym (is_l.words x at))
 
-    flag_same : (j : ℕ) → slice_index k (n + 1 + j) ≡ slice_index l (n + 1 + j)
-    flag_same j = same_flag (slice_index k (n + 1 + j)) (slice_index l (n + 1 + j)) (is_k.flags j) (is_l.flags j)
-        (ap (λ (p : Place). p.chosen j) same)
-
-    each : (i : ℕ) → slice_index k i ≡ slice_index l i
-    each i = elim (cases_order i n) [
+    each : (i : ℕ) → i < length k → slice_index k i ≡ slice_index l i
+    each i inside = elim (cases_order i n) [
       | inl here ↦ ap (slice_index k) here ∙ shared_same ∙ ap (slice_index l) (sym here)
       | inr apart ↦ elim apart [
-        | inl low ↦ hart_same i low
-        | inr past ↦
-            let at : i ≡ n + 1 + (i - (n + 1)) = omega (arith, past) in
-            ap (slice_index k) at ∙ flag_same (i - (n + 1)) ∙ ap (slice_index l) (sym at)
+        | inl low ↦ same_word (slice_index k i) (slice_index l i) (hart_same i low) (chosen_same i low)
+        | inr past ↦ absurd (let len = is_k.len in omega (arith, len, inside, past))
       ]
     ]
 
   pub keys_differ : KeysDiffer Key place
-  keys_differ k l is_k is_l same = ext_get_or 0 k l (is_k.len ∙ sym is_l.len) (λ i low. each k l is_k is_l same i)
+  keys_differ k l is_k is_l same = ext_get_or 0 k l (is_k.len ∙ sym is_l.len) (each k l is_k is_l same)

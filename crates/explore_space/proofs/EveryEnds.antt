@@ -24,7 +24,7 @@ use Rattle.explore_space.specs.Begun.{begun_choices, turns_start}
 use Rattle.explore_space.specs.Ends.{EndValue, end_with, AreEndsAt, FitsHarts}
 use Rattle.explore_space.specs.Every.{meant_choices, IsListOf, StopsAll, run_end, AreAllEnds}
 use Rattle.explore_space.specs.Failing.{IsUnowned, breaks_asked, fails_there, one_each}
-use Rattle.explore_space.specs.Places.{hart_numbered, place_of_key, IsKey}
+use Rattle.explore_space.specs.Places.{hart_worded, place_of_key, IsKey}
 use Rattle.explore_space.specs.declared.meant.ScRefusals.{ScRefusals}
 use Rattle.explore_space.specs.declared.question.Always.{Always}
 use Rattle.explore_space.specs.declared.shared.Shared.{Shared}
@@ -119,7 +119,7 @@ module _ (rule : Option Kind) (always : Option Always) (habits : Habits) (refusa
         let is_key = All-contains (IsKey other n harts shareds) keys seen.key r.are (contains_at keys seen.number seen.key seen.there) in
         let len = is_key.len in
         let taken = length-take-le n seen.key (omega (arith, len)) in
-        let mapped = length-map (take n seen.key) (hart_numbered harts) in
+        let mapped = length-map (take n seen.key) (hart_worded harts) in
         sym (mapped ∙ taken) ∙ ap (λ (p : Place). length p.world.harts) seen.is
         ∙ begun_count habits.section start (λ k. true) (length start.harts) ∙ length-started image inputs
 

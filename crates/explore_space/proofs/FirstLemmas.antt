@@ -1,5 +1,6 @@
 -- The first key.
-use Rattle.std.proofs.Common.{◌≡◌, ℕ, zero, suc, ◌+◌, ◌*◌, ◌%◌, ◌<◌, Bool, false, ◌==◌, List, [], ◌∷◌, length, map, take, Some, None, refl, ap, sym, ◌∙◌, subst, arith}
+use Rattle.std.proofs.Common.{◌≡◌, ℕ, zero, suc, ◌+◌, ◌*◌, ◌/◌, ◌%◌, ◌<◌, Bool, false, ◌==◌, List, [], ◌∷◌, length, map, take, Some, None, refl, ap, sym, ◌∙◌, subst, arith, inl, inr}
+use Rattle.std.proofs.lemmas.Bool.{cases_lt}
 use Rattle.std.proofs.lemmas.List.{length-map, length-take-le, same_lists}
 use Rattle.std.proofs.lemmas.Option.{same_Some, slice_get_within, slice_get-map, get_or_from_slice_get}
 use Rattle.std.specs.List.{All, slice_get, slice_index}
@@ -20,9 +21,9 @@ use Rattle.explore_table.proofs.ListLemmas.{get_there}
 use Rattle.explore_sites.specs.Cells.{AreCanonical, words_shown, values_over}
 use Rattle.explore_sites.proofs.CanonLemmas.{no_cells_canonical}
 use Rattle.explore_laws.specs.Places.{Place, place_begun}
-use Rattle.explore_space.specs.Places.{hart_in, hart_numbered, cells_in, marks_in, memory_over, world_of_key, place_of_key, HartsDiffer, IsKey, IsKeyOf}
+use Rattle.explore_space.specs.Places.{chosen_by_key, chosen_worded, hart_in, hart_numbered, hart_worded, cells_in, marks_in, memory_over, world_of_key, place_of_key, HartsDiffer, IsKey, IsKeyOf}
 use Rattle.explore_space.specs.declared.shared.Shared.{Shared}
-use Rattle.explore_space.proofs.WorldLemmas.{memory_is}
+use Rattle.explore_space.proofs.WorldLemmas.{memory_is, unmarked_past}
 use Rattle.explore_space.proofs.KeyLemmas.{taken_at}
 use Rattle.explore_space.specs.Habits.{Habits, stride_by_habit}
 
@@ -60,35 +61,32 @@ harts_begin_apart image inputs begin begin_is i j d low inside =
 -- ---- the first key
 module _ {Z : Type 0} (image : ImageValue) (inputs : List ℕ) (begin : List Hart) (shareds : List (Shared Z)) (s : Shared Z) (row : List ℕ)
     (entry : image.entry % 4 ≡ 0) (shareds_are : shareds ≡ s ∷ []) (begin_is : map hart_of begin ≡ (started image inputs).harts)
-    (no_marks : mark_at s.marks ≡ (λ _. None)) (no_cells : s.cells.items ≡ []) (len : length row ≡ 2 * length inputs + 1)
-    (ids : (k : ℕ) → k < length inputs → slice_index row k ≡ k) (zeros : (k : ℕ) → slice_index row (length inputs + k) ≡ 0) where
+    (no_marks : mark_at s.marks ≡ (λ _. None)) (no_cells : s.cells.items ≡ []) (len : length row ≡ length inputs + 1)
+    (words : (k : ℕ) → k < length inputs → slice_index row k ≡ 2 * k) (shared_at : slice_index row (length inputs) ≡ 0) where
   count : length begin ≡ length inputs
   count = sym (length-map begin hart_of) ∙ ap length begin_is ∙ length-started image inputs
 
   taken_long : length (take (length inputs) row) ≡ length inputs
   taken_long = length-take-le (length inputs) row (omega (arith, len))
 
-  id_there : (k : ℕ) → k < length inputs → slice_get (take (length inputs) row) k ≡ Some k
-  id_there k below = taken_at (length inputs) row k below (omega (arith, len, below)) ∙ ap Some (ids k below)
+  word_there : (k : ℕ) → k < length inputs → slice_get (take (length inputs) row) k ≡ Some (2 * k)
+  word_there k below = taken_at (length inputs) row k below (omega (arith, len, below)) ∙ ap Some (words k below)
 
-  all_harts : map (hart_numbered begin) (take (length inputs) row) ≡ (started image inputs).harts
-  all_harts = same_lists (map (hart_numbered begin) (take (length inputs) row)) (map hart_of begin)
-      (length-map (take (length inputs) row) (hart_numbered begin) ∙ taken_long ∙ sym count ∙ sym (length-map begin hart_of))
+  half_is : (k : ℕ) → 2 * k / 2 ≡ k
+  half_is k = omega arith
+
+  all_harts : map (hart_worded begin) (take (length inputs) row) ≡ (started image inputs).harts
+  all_harts = same_lists (map (hart_worded begin) (take (length inputs) row)) (map hart_of begin)
+      (length-map (take (length inputs) row) (hart_worded begin) ∙ taken_long ∙ sym count ∙ sym (length-map begin hart_of))
       (λ k d low.
-      let long = length-map (take (length inputs) row) (hart_numbered begin) in
+      let long = length-map (take (length inputs) row) (hart_worded begin) in
       let below : k < length inputs = omega (arith, low, long, taken_long) in
       let at = get_there begin k (omega (arith, below, count)) in
-      get_or_from_slice_get (map (hart_numbered begin) (take (length inputs) row)) k (hart_of at.0) d
-      (slice_get-map (hart_numbered begin) (take (length inputs) row) k ∙ ap (option_map (hart_numbered begin)) (id_there k below)
-      ∙ ap (λ o. Some (hart_in o)) at.1)
+      get_or_from_slice_get (map (hart_worded begin) (take (length inputs) row)) k (hart_of at.0) d
+      (slice_get-map (hart_worded begin) (take (length inputs) row) k ∙ ap (option_map (hart_worded begin)) (word_there k below)
+      ∙ ap (λ i. Some (hart_numbered begin i)) (half_is k) ∙ ap (λ o. Some (hart_in o)) at.1)
       ∙ sym (get_or_from_slice_get (map hart_of begin) k (hart_of at.0) d (slice_get-map hart_of begin k ∙ ap (option_map hart_of) at.1)))
       ∙ begin_is
-
-  shared_at : slice_index row (length inputs) ≡ 0
-  shared_at = ap (slice_index row) (plus_none (length inputs)) ∙ zeros 0
-    where
-      plus_none : (k : ℕ) → k ≡ k + 0
-      plus_none k = omega arith
 
   shared_there : slice_get shareds (slice_index row (length inputs)) ≡ Some s
   shared_there = ap (slice_get shareds) shared_at ∙ ap (λ ss. slice_get ss 0) shareds_are
@@ -115,17 +113,21 @@ module _ {Z : Type 0} (image : ImageValue) (inputs : List ℕ) (begin : List Har
       world_of : List HartValue → Memory → Marks → World
       world_of hs x y = record { harts = hs; memory = x; reserved = y }
 
-  flag_none : (k : ℕ) → slice_index row (length inputs + 1 + k) ≡ 0
-  flag_none k = ap (slice_index row) (moved (length inputs) k) ∙ zeros (1 + k)
-    where
-      moved : (n k : ℕ) → n + 1 + k ≡ n + (1 + k)
-      moved n k = omega arith
+  even : (k : ℕ) → 2 * k % 2 ≡ 0
+  even k = omega arith
+
+  -- words of harts are even
+  chosen_none : (k : ℕ) → chosen_by_key (length inputs) row k ≡ false
+  chosen_none k = elim (cases_lt k (length inputs)) [
+    | inl below ↦ ap chosen_worded (get_or_from_slice_get (take (length inputs) row) k (2 * k) 0 (word_there k below)) ∙ ap (λ rest. rest == 1) (even k)
+    | inr past ↦ unmarked_past (length inputs) row k past
+  ]
 
   first_place : (habits : Habits)
       → place_of_key habits image (length inputs) begin shareds row ≡ place_begun (stride_by_habit habits) (started image inputs)
   first_place habits =
-      let chosen : (λ (k : ℕ). slice_index row (length inputs + 1 + k) == 1) ≡ (λ (k : ℕ). false) = λ i k. ap (λ v. v == 1) (flag_none k) i in
-      ap (λ (x : World). place_of x (λ k. slice_index row (length inputs + 1 + k) == 1)) first_world ∙ ap (place_of (started image inputs)) chosen
+      let chosen : chosen_by_key (length inputs) row ≡ (λ (k : ℕ). false) = λ i k. chosen_none k i in
+      ap (λ (x : World). place_of x (chosen_by_key (length inputs) row)) first_world ∙ ap (place_of (started image inputs)) chosen
     where
       place_of : World → (ℕ → Bool) → Place
       place_of x y = record { stride = stride_by_habit habits; world = x; chosen = y }
@@ -138,12 +140,11 @@ module _ {Z : Type 0} (image : ImageValue) (inputs : List ℕ) (begin : List Har
   unfolding run values_over
   first_key = record {
     len = len;
-    harts = λ k id e.
-        let below : k < length inputs = (let a = slice_get_within (take (length inputs) row) k id e in omega (arith, a, taken_long)) in
-        let is : k ≡ id = same_Some k id (sym (id_there k below) ∙ e) in
+    harts = λ k word e.
+        let below : k < length inputs = (let a = slice_get_within (take (length inputs) row) k word e in omega (arith, a, taken_long)) in
+        let is : 2 * k ≡ word = same_Some (2 * k) word (sym (word_there k below) ∙ e) in
         omega (arith, is, below, count);
     shared = (let a = ap length shareds_are in omega (arith, a, shared_at));
-    flags = λ k. (let none = flag_none k in omega (arith, none));
     once = (
       harts_begin_apart image inputs begin begin_is,
       (

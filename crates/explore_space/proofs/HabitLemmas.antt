@@ -2,6 +2,7 @@
 use Rattle.std.proofs.Common.{◌≡◌, ℕ, zero, suc, ◌+◌, true, false, not, ◌&&◌, cond, List, [], ◌∷◌, ◌++◌, Option, Some, None, refl, ap, sym, ◌∙◌, subst, inl, inr, arith, true≢false}
 use Rattle.std.proofs.lemmas.Bool.{and_from, and_parts, cases_Bool}
 use Rattle.std.specs.List.{slice_get}
+use Rattle.std.specs.Option.{is_some}
 use Rattle.hart_step.specs.Hart.{HartValue}
 use Rattle.hart_local.specs.CodeMemory.{code_in}
 use Rattle.hart_local.specs.LocalRuns.{plain_choices}
@@ -18,10 +19,11 @@ use Rattle.explore_laws.specs.Quiet.{AreAligned, AreQuiet, CanWait}
 use Rattle.explore_laws.specs.Settling.{Stride}
 use Rattle.explore_laws.proofs.QuietLemmas.{aligned_run, quiet_joined, step_aligned}
 use Rattle.explore_laws.proofs.StopLemmas.{other_step}
-use Rattle.explore_sites.specs.Own.{alone_by, alone_in, clear_in, is_alone, unrefused}
-use Rattle.explore_space.specs.Habits.{Habits, clear_by_habit, nobodys, local_stride, own_at_once, own_stride, quiet_by_habit, stride_by_habit, takes_own_by, takes_own_step, takes_quiet_by, takes_quiet_step, world_rested}
+use Rattle.explore_sites.specs.Own.{alone_by, alone_in, clear_in, is_alone, touch_ahead, unrefused}
+use Rattle.explore_space.specs.Habits.{Habits, clear_by_habit, local_stride, own_at_once, own_stride, quiet_by_habit, stride_by_habit, takes_own_by, takes_own_step, takes_quiet_by, takes_quiet_step, world_rested}
 use Rattle.explore_space.specs.Resting.{is_quiet, rests_in}
 use Rattle.explore_space.proofs.AloneLemmas.{local_alone}
+use Rattle.explore_space.proofs.TouchLemmas.{touches_kept}
 use Rattle.explore_space.proofs.RestLemmas.{quiet_hart, section_waits, stride_stays}
 
 pub step_keeps : (w : World) (c : Choice) → Keeps w.memory (step w c).memory
@@ -77,8 +79,7 @@ module _ (habits : Habits) where
   own_kept : (w : World) (c : Choice) (h : ℕ) (o : Option HartValue) → takes_own_by habits (step w c) h o ≡ takes_own_by habits w h o
   own_kept w c h None = refl
   own_kept w c h (Some v) =
-      ap (λ b. b && not (is_alone nobodys (step w c).memory h v)) (by_kept w c h (Some v))
-      ∙ ap (λ b. takes_quiet_step habits w.memory h v && not b) (alone_kept nobodys w.memory (step w c).memory h v (step_keeps w c))
+      touches_kept (not_stopped v.state && not (rests_in habits.section v)) habits.owners w.memory (step w c).memory h v (step_keeps w c)
 
   own_stays : (w : World) (h : ℕ) (c : Choice) → (h ≡ c.hart → ⊥) → takes_own_step habits (step w c) h ≡ takes_own_step habits w h
   own_stays w h c other = ap (takes_own_by habits (step w c) h) (other_step w c h other) ∙ own_kept w c h (slice_get w.harts h)
@@ -88,7 +89,7 @@ module _ (habits : Habits) where
     where
       by_hart : (o : Option HartValue) → takes_own_by habits w h o ≡ true → takes_quiet_by habits w h o ≡ true
       by_hart None e = e
-      by_hart (Some v) e = (and_parts (takes_quiet_step habits w.memory h v) (not (is_alone nobodys w.memory h v)) e).0
+      by_hart (Some v) e = (and_parts (takes_quiet_step habits w.memory h v) (is_some (touch_ahead w.memory v)) e).0
 
   was_clear : (w : World) (c : Choice) (h : ℕ) → AreAligned w → (h ≡ c.hart → ⊥) → quiet_by_habit habits w c.hart ≡ true
       → clear_by_habit habits (step w c) h ≡ true → clear_by_habit habits w h ≡ true

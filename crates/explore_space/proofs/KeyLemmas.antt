@@ -1,5 +1,5 @@
 -- Keys after a turn, and keys as tables grow.
-use Rattle.std.proofs.Common.{◌≡◌, ℕ, zero, suc, ◌+◌, ◌%◌, ◌<◌, ◌≤◌, Bool, ◌==◌, List, [], ◌∷◌, length, map, take, set, Option, Some, refl, ap, sym, ◌∙◌, subst, arith, inl, inr, ◌⊎◌}
+use Rattle.std.proofs.Common.{◌≡◌, ℕ, zero, suc, ◌/◌, ◌%◌, ◌<◌, ◌≤◌, Bool, true, List, [], ◌∷◌, length, map, take, set, Option, Some, refl, ap, sym, ◌∙◌, subst, arith, inl, inr, ◌⊎◌}
 use Rattle.std.proofs.lemmas.List.{length-set, length-append, map-set}
 use Rattle.std.proofs.lemmas.List.Elements.{All-set}
 use Rattle.std.proofs.lemmas.Option.{slice_get_within, get_or_from_slice_get, slice_get-map}
@@ -19,9 +19,9 @@ use Rattle.explore_sites.specs.Cells.{words_shown}
 use Rattle.explore_laws.specs.Places.{Place, place_after}
 use Rattle.explore_search.specs.Searched.{GoesOn}
 use Rattle.explore_space.specs.Habits.{Habits, stride_by_habit}
-use Rattle.explore_space.specs.Places.{hart_in, hart_numbered, cells_in, marks_in, memory_over, world_of_key, place_of_key, IsKey, IsKeyOf, KeptOnce, KeysStay, PartsTurn, ShowsParts, world_turned}
+use Rattle.explore_space.specs.Places.{chosen_by_key, chosen_worded, hart_in, hart_worded, cells_in, marks_in, memory_over, world_of_key, place_of_key, IsKey, IsKeyOf, KeptOnce, KeysStay, PartsTurn, ShowsParts, world_turned}
 use Rattle.explore_space.specs.declared.shared.Shared.{Shared}
-use Rattle.explore_space.proofs.WorldLemmas.{get_within, map_same, memory_is, taken, shared_after, flags_after, chosen_after, turn_sets}
+use Rattle.explore_space.proofs.WorldLemmas.{get_within, map_same, memory_is, taken, shared_after, chosen_after, turn_sets}
 
 pub longer_length : {X : Type 0} (xs ys : List X) → GoesOn xs ys → length xs ≤ length ys
 longer_length xs ys goes = let e = ap length goes.1 ∙ length-append xs goes.0 in omega (arith, e)
@@ -32,11 +32,11 @@ longer_get xs ys goes k h = ap (λ zs. slice_get zs k) goes.1 ∙ get_within xs 
 -- ---- keys stay
 module _ {Z : Type 0} (image : ImageValue) (n : ℕ) (harts more_harts : List Hart) (shareds more_shareds : List (Shared Z))
     (harts_go : GoesOn harts more_harts) (shareds_go : GoesOn shareds more_shareds) (key : List ℕ) (is : IsKey image n harts shareds key) where
-  pub harts_same : (k i : ℕ) → slice_get (take n key) k ≡ Some i → hart_numbered more_harts i ≡ hart_numbered harts i
-  harts_same k i e = ap hart_in (longer_get harts more_harts harts_go i (is.harts k i e))
+  pub harts_same : (k word : ℕ) → slice_get (take n key) k ≡ Some word → hart_worded more_harts word ≡ hart_worded harts word
+  harts_same k word e = ap hart_in (longer_get harts more_harts harts_go (word / 2) (is.harts k word e))
 
-  pub all_same : map (hart_numbered more_harts) (take n key) ≡ map (hart_numbered harts) (take n key)
-  all_same = map_same (hart_numbered more_harts) (hart_numbered harts) (take n key) harts_same
+  pub all_same : map (hart_worded more_harts) (take n key) ≡ map (hart_worded harts) (take n key)
+  all_same = map_same (hart_worded more_harts) (hart_worded harts) (take n key) harts_same
 
   shared_same : slice_get more_shareds (slice_index key n) ≡ slice_get shareds (slice_index key n)
   shared_same = longer_get shareds more_shareds shareds_go (slice_index key n) is.shared
@@ -45,18 +45,17 @@ module _ {Z : Type 0} (image : ImageValue) (n : ℕ) (harts more_harts : List Ha
   world_by hs o = record { harts = hs; memory = memory_over (image_memory image) (words_shown image (cells_in o)); reserved = marks_in o }
 
   abbrev place_by : Habits → World → Place
-  place_by habits w = record { stride = stride_by_habit habits; world = w; chosen = λ k. slice_index key (n + 1 + k) == 1 }
+  place_by habits w = record { stride = stride_by_habit habits; world = w; chosen = chosen_by_key n key }
 
   place_stays : (habits : Habits) → place_of_key habits image n more_harts more_shareds key ≡ place_of_key habits image n harts shareds key
   place_stays habits = ap (λ hs. place_by habits (world_by hs (slice_get more_shareds (slice_index key n)))) all_same
-      ∙ ap (λ o. place_by habits (world_by (map (hart_numbered harts) (take n key)) o)) shared_same
+      ∙ ap (λ o. place_by habits (world_by (map (hart_worded harts) (take n key)) o)) shared_same
 
   key_stays : KeptOnce image more_harts more_shareds → IsKey image n more_harts more_shareds key
   key_stays once = record {
     len = is.len;
-    flags = is.flags;
     once = once;
-    harts = λ k i e. (let a = is.harts k i e in let b = longer_length harts more_harts harts_go in omega (arith, a, b));
+    harts = λ k word e. (let a = is.harts k word e in let b = longer_length harts more_harts harts_go in omega (arith, a, b));
     shared = (let a = is.shared in let b = longer_length shareds more_shareds shareds_go in omega (arith, a, b));
     keeps = subst (λ o. Keeps (image_memory image) (memory_over (image_memory image) (words_shown image (cells_in o)))) (sym shared_same) is.keeps;
     words = subst (λ o. (x : ℕ) → x % 4 ≡ 0
@@ -88,24 +87,24 @@ get_set (y ∷ xs) (suc i) zero v x e = inl e
 get_set (y ∷ xs) (suc i) (suc k) v x e = get_set xs i k v x e
 
 -- ---- what a key tells
--- the number of a hart in a key, and that hart in its world
-pub id_at : {Z : Type 0} (image : ImageValue) (n : ℕ) (harts : List Hart) (shareds : List (Shared Z)) (key : List ℕ)
+-- the word of a hart in a key, and that hart in its world
+pub word_at : {Z : Type 0} (image : ImageValue) (n : ℕ) (harts : List Hart) (shareds : List (Shared Z)) (key : List ℕ)
     → IsKey image n harts shareds key → (k : ℕ) → k < n → slice_get (take n key) k ≡ Some (slice_index key k)
-id_at image n harts shareds key is k low = taken_at n key k low (let e = is.len in omega (arith, e, low))
+word_at image n harts shareds key is k low = taken_at n key k low (let e = is.len in omega (arith, e, low))
 
 pub hart_at : {Z : Type 0} (image : ImageValue) (n : ℕ) (harts : List Hart) (shareds : List (Shared Z)) (key : List ℕ)
     → IsKey image n harts shareds key → (k : ℕ) → k < n
-    → slice_get (map (hart_numbered harts) (take n key)) k ≡ Some (hart_numbered harts (slice_index key k))
+    → slice_get (map (hart_worded harts) (take n key)) k ≡ Some (hart_worded harts (slice_index key k))
 hart_at image n harts shareds key is k low =
-    slice_get-map (hart_numbered harts) (take n key) k ∙ ap (option_map (hart_numbered harts)) (id_at image n harts shareds key is k low)
+    slice_get-map (hart_worded harts) (take n key) k ∙ ap (option_map (hart_worded harts)) (word_at image n harts shareds key is k low)
 
 -- that hart, and what harts share
 pub key_parts : {Z : Type 0} (image : ImageValue) (n : ℕ) (harts : List Hart) (shareds : List (Shared Z)) (key : List ℕ)
     → IsKey image n harts shareds key → (number : ℕ) → number < n
-    → ShowsParts image (world_of_key image n harts shareds key) number harts shareds (slice_index key number) (slice_index key n)
+    → ShowsParts image (world_of_key image n harts shareds key) number harts shareds (slice_index key number / 2) (slice_index key n)
 key_parts image n harts shareds key is number low =
     let w = world_of_key image n harts shareds key in
-    let v = hart_numbered harts (slice_index key number) in
+    let v = hart_worded harts (slice_index key number) in
     let there = hart_at image n harts shareds key is number low in
     record {
       there = there;
@@ -118,9 +117,9 @@ key_parts image n harts shareds key is number low =
 -- ---- one turn
 module _ {Z : Type 0} (habits : Habits) (image : ImageValue) (n : ℕ) (harts more_harts : List Hart) (shareds more_shareds : List (Shared Z))
     (harts_go : GoesOn harts more_harts) (shareds_go : GoesOn shareds more_shareds) (key next : List ℕ) (is : IsKey image n harts shareds key)
-    (number id shared_id steps : ℕ) (refuse : Bool) (low : number < n) (id_there : id < length more_harts) (shared_there : shared_id < length more_shareds)
-    (next_is : next ≡ set (set (set key number id) n shared_id) (n + 1 + number) 1)
-    (turns : PartsTurn habits image (record { hart = number; refuse = refuse }) harts shareds (slice_index key number) (slice_index key n)
+    (number word id shared_id steps : ℕ) (refuse : Bool) (low : number < n) (half : word / 2 ≡ id) (marked : chosen_worded word ≡ true)
+    (id_there : id < length more_harts) (shared_there : shared_id < length more_shareds) (next_is : next ≡ set (set key number word) n shared_id)
+    (turns : PartsTurn habits image (record { hart = number; refuse = refuse }) harts shareds (slice_index key number / 2) (slice_index key n)
     more_harts more_shareds id shared_id steps) where
   abbrev w : World
   w = world_of_key image n harts shareds key
@@ -129,27 +128,28 @@ module _ {Z : Type 0} (habits : Habits) (image : ImageValue) (n : ℕ) (harts mo
   c = record { hart = number; refuse = refuse }
 
   abbrev g : ℕ → HartValue
-  g = hart_numbered more_harts
+  g = hart_worded more_harts
 
   abbrev values_in : Option (Shared Z) → ℕ → WordBytes
   values_in o = words_shown image (cells_in o)
 
-  shows : ShowsParts image (world_turned habits w c) number more_harts more_shareds id shared_id
-  shows = turns.leads w (key_parts image n harts shareds key is number low)
+  shows : ShowsParts image (world_turned habits w c) number more_harts more_shareds (word / 2) shared_id
+  shows = subst (λ i. ShowsParts image (world_turned habits w c) number more_harts more_shareds i shared_id) (sym half)
+      (turns.leads w (key_parts image n harts shareds key is number low))
 
   at_n : slice_index next n ≡ shared_id
-  at_n = shared_after n number id shared_id key next low is.len next_is
+  at_n = shared_after n number word shared_id key next is.len next_is
 
-  taken_is : take n next ≡ set (take n key) number id
-  taken_is = taken n number id shared_id key next low is.len next_is
+  taken_is : take n next ≡ set (take n key) number word
+  taken_is = taken n number word shared_id key next is.len next_is
 
-  harts_are : map g (take n next) ≡ set w.harts number (g id)
-  harts_are = ap (map g) taken_is ∙ map-set g (take n key) number id
-      ∙ ap (λ (hs : List HartValue). set hs number (g id)) (all_same image n harts more_harts shareds more_shareds harts_go shareds_go key is)
+  harts_are : map g (take n next) ≡ set w.harts number (g word)
+  harts_are = ap (map g) taken_is ∙ map-set g (take n key) number word
+      ∙ ap (λ (hs : List HartValue). set hs number (g word)) (all_same image n harts more_harts shareds more_shareds harts_go shareds_go key is)
 
   next_world : world_of_key image n more_harts more_shareds next ≡ world_turned habits w c
   next_world =
-      let harts_turned = harts_are ∙ sym (turn_sets habits w c (g id) shows.there) in
+      let harts_turned = harts_are ∙ sym (turn_sets habits w c (g word) shows.there) in
       let memory_turned = memory_is (image_memory image) (world_turned habits w c).memory (values_in (slice_get more_shareds shared_id)) shows.keeps.rights
       shows.words in
       ap (λ i. world_of (slice_get more_shareds i)) at_n
@@ -162,24 +162,22 @@ module _ {Z : Type 0} (habits : Habits) (image : ImageValue) (n : ℕ) (harts mo
   next_place = λ i. record {
     stride = stride_by_habit habits;
     world = next_world i;
-    chosen = λ k. chosen_after n number id shared_id key next low is.len next_is k i;
+    chosen = λ k. chosen_after n number word key next low is.len taken_is marked k i;
   }
 
   next_key : KeptOnce image more_harts more_shareds → IsKey image n more_harts more_shareds next
   next_key once = record {
-    len = ap length next_is ∙ length-set (set (set key number id) n shared_id) (n + 1 + number) 1 ∙ length-set (set key number id) n shared_id
-        ∙ length-set key number id ∙ is.len;
-    harts = λ k i e. elim (get_set (take n key) number k id i (ap (λ (xs : List ℕ). slice_get xs k) (sym taken_is) ∙ e)) [
+    len = ap length next_is ∙ length-set (set key number word) n shared_id ∙ length-set key number word ∙ is.len;
+    harts = λ k i e. elim (get_set (take n key) number k word i (ap (λ (xs : List ℕ). slice_get xs k) (sym taken_is) ∙ e)) [
       | inl old ↦ (let a = is.harts k i old in let b = longer_length harts more_harts harts_go in omega (arith, a, b))
-      | inr new ↦ (let a = new in omega (arith, a, id_there))
+      | inr new ↦ (let a = new in omega (arith, a, half, id_there))
     ];
     shared = (let a = at_n in omega (arith, a, shared_there));
-    flags = flags_after n number id shared_id key next low is.len next_is is.flags;
     once = once;
     keeps = subst (λ (x : World). Keeps (image_memory image) x.memory) (sym next_world) shows.keeps;
     words = λ x at. ap (λ i. values_in (slice_get more_shareds i) x) at_n ∙ shows.words x at
         ∙ ap (λ (y : World). bytes_at y.memory.bytes x) (sym next_world);
-    aligned = subst (All IsAligned) (sym harts_are) (All-set IsAligned w.harts number (g id) shows.aligned is.aligned);
+    aligned = subst (All IsAligned) (sym harts_are) (All-set IsAligned w.harts number (g word) shows.aligned is.aligned);
   }
 
   pub next_is_key : KeptOnce image more_harts more_shareds

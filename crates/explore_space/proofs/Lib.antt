@@ -1,4 +1,5 @@
 pub mod RestLemmas
+pub mod RunningLemmas
 pub mod AloneLemmas
 pub mod AstrayLemmas
 pub mod ClearLemmas

@@ -6,6 +6,8 @@ use Rattle.machine.specs.Chosen.{is_chosen}
 use Rattle.machine.specs.declared.choice.Choice.{Choice}
 use Rattle.explore_search.proofs.SearchLemmas.{below_or}
 use Rattle.explore_space.specs.Failing.{one_each}
+use Rattle.explore_space.specs.Places.{chosen_by_key}
+use Rattle.explore_space.proofs.WorldLemmas.{unmarked_past}
 
 same_or_above : (k n : ℕ) → n ≤ k → (k ≡ n) ⊎ (n < k)
 same_or_above k n h = grind arith
@@ -37,11 +39,11 @@ chosen_below (suc n) f k h = elim (below_or k n (omega (arith, h))) [
       (here_step (f n) n (one_each n f) (chosen_past n f n (omega arith)))
 ]
 
--- the marks of n harts are the harts that a choice of each chooses
-pub marks_are : (n : ℕ) (f : ℕ → Bool) (k : ℕ) → (ltb k n && f k) ≡ is_chosen (one_each n f) k
-marks_are n f k = elim (cases_lt k n) [
-  | inl low ↦ rw (lt-ltb k n low) (sym (chosen_below n f k low))
-  | inr past ↦ rw (le-ltb k n past) (sym (chosen_past n f k past))
+-- the harts that a key's words mark are those that a choice of each chooses
+pub marks_are : (n : ℕ) (key : List ℕ) (k : ℕ) → chosen_by_key n key k ≡ is_chosen (one_each n (chosen_by_key n key)) k
+marks_are n key k = elim (cases_lt k n) [
+  | inl low ↦ sym (chosen_below n (chosen_by_key n key) k low)
+  | inr past ↦ unmarked_past n key k past ∙ sym (chosen_past n (chosen_by_key n key) k past)
 ]
 
 -- ---- one mark more

@@ -1,5 +1,5 @@
 -- Where a hart's turn leads, and how many steps it takes in it.
-use Rattle.std.proofs.Common.{◌≡◌, ℕ, zero, suc, ◌+◌, ◌<◌, ◌≤◌, Bool, true, false, cond, List, None, Some, refl, ap, sym, ◌∙◌, subst, arith, inl, inr, Option}
+use Rattle.std.proofs.Common.{◌≡◌, ℕ, zero, suc, ◌+◌, ◌/◌, ◌<◌, ◌≤◌, Bool, true, false, cond, List, None, Some, refl, ap, sym, ◌∙◌, subst, arith, inl, inr, Option}
 use Rattle.std.proofs.lemmas.Bool.{cases_Bool}
 use Rattle.std.specs.List.{slice_get, slice_index}
 use Rattle.image.specs.Image.{ImageValue}
@@ -198,7 +198,7 @@ module _ {Z : Type 0} (image : ImageValue) (n : ℕ) (harts : List Hart) (shared
   abbrev w : World
   w = world_of_key image n harts shareds key
 
-  pub key_shows : (number : ℕ) (hart : Hart) (shared : Shared Z) → number < n → slice_get harts (slice_index key number) ≡ Some hart
+  pub key_shows : (number : ℕ) (hart : Hart) (shared : Shared Z) → number < n → slice_get harts (slice_index key number / 2) ≡ Some hart
       → slice_get shareds (slice_index key n) ≡ Some shared
       → ShowsThem image w number (hart_of hart) (words_shown image shared.cells.items) (mark_at shared.marks)
   key_shows number hart shared low hart_there shared_there =

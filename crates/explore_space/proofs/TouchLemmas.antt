@@ -1,9 +1,9 @@
 -- What an image tells of a hart's next step: whether it is on a word of the hart's own, and whether
 -- it may be on another's.
-use Rattle.std.proofs.Common.{◌≡◌, ℕ, zero, suc, ◌+◌, ◌%◌, ◌^◌, ◌<◌, Bool, true, false, not, ◌&&◌, ◌||◌, ◌==◌, cond, List, [], ◌∷◌, length, Option, Some, None, refl, ap, sym, ◌∙◌, inl, inr, arith, true≢false}
+use Rattle.std.proofs.Common.{◌≡◌, ℕ, zero, suc, ◌+◌, ◌%◌, ◌^◌, ◌<◌, Bool, true, false, not, ◌&&◌, ◌||◌, cond, Option, Some, None, refl, ap, sym, ◌∙◌, inl, inr, arith, true≢false}
 use Rattle.std.specs.List.{slice_get}
 use Rattle.std.specs.Option.{is_none, is_some}
-use Rattle.std.proofs.lemmas.Bool.{and_parts, and_right, cases_eq, eqb-true, not-true}
+use Rattle.std.proofs.lemmas.Bool.{and_parts, and_right, cases_eq, not-true}
 use Rattle.mem_store.specs.Memory.{Memory, all_below, around, granted, grants, to_execute, to_write}
 use Rattle.mem_store.specs.Access.{fetched}
 use Rattle.isa_table.specs.Decoded.{decoded}
@@ -15,21 +15,17 @@ use Rattle.hart_step.specs.declared.hart.Cause.{Cause}
 use Rattle.hart_step.specs.declared.hart.HartState.{HartState}
 use Rattle.hart_step.specs.declared.hart.HartState.TheVariants.{Running, Exited, Faulted}
 use Rattle.machine.specs.World.{World}
-use Rattle.bank_laws.specs.Runs.{Act, Reads, Writes, Reserves, Tries, Touch, word_found}
+use Rattle.bank_laws.specs.Runs.{Touch, word_found}
 use Rattle.bank_laws.specs.Words.{bytes_at, with_four_if}
 use Rattle.bank_laws.specs.Carried.{carried_at, carried_by, carried_in, touch_of, unless_fault}
 use Rattle.bank_laws.specs.Table.{image_with_bytes, is_unwritable, needed_code}
 use Rattle.bank_laws.proofs.EffectLemmas.{fault_same}
 use Rattle.bank_laws.proofs.WordLemmas.{SameFour, fetched_same, wrapped}
-use Rattle.explore_sites.specs.Own.{Owners, code_ahead, is_alone, is_hart, is_other, is_own_if, is_own_touch, is_store_conditional, may_store, only_loads, touch_ahead}
+use Rattle.explore_sites.specs.Own.{Owners, code_ahead, is_alone, is_other, is_own_if, is_own_touch, touch_ahead}
 use Rattle.explore_sites.proofs.StayLemmas.{alone_kept, memory_of}
 use Rattle.explore_space.specs.Begun.{runs_outside}
 use Rattle.explore_space.specs.Failing.{strays, strays_by, touches_anothers}
-use Rattle.explore_space.specs.Habits.{Habits, habits_with, nobodys, owners_in, takes_own_by, takes_own_step, takes_quiet_step, waits_on_own}
-use Rattle.explore_space.specs.Resting.{rests_in}
-use Rattle.explore_space.specs.declared.own_words.OwnWord.{OwnWord}
-use Rattle.explore_space.specs.declared.section.Section.{Section}
-use Rattle.explore_laws.specs.Bounds.{not_stopped}
+use Rattle.explore_space.specs.Habits.{Habits, takes_own_by, takes_own_step, takes_quiet_step}
 
 -- ---- the touch of a hart whose instruction no store changes
 each_below : (n : ℕ) (test : ℕ → Bool) (i : ℕ) → i < n → all_below n test ≡ true → test i ≡ true
@@ -129,102 +125,63 @@ module _ (owners : Owners) (m : Memory) (w : World) (h : ℕ) (v : HartValue) (t
       sym (strays_told ∙ ap (λ p. is_some p || touches_anothers owners h (touch_ahead m v)) none
       ∙ ap (touches_anothers owners h) touch ∙ ap (λ p. is_other p h) (sym owner))
 
--- ---- whether a hart takes a step on its own word
--- whether a touch is a hart's own, by the word's owner
-abbrev own_by : Option ℕ → ℕ → Act → Bool → Bool
-own_by o h act u = (not (is_other o h) && not (may_store act && u)) && not (is_store_conditional act) && (is_hart o h || (only_loads act && u))
-
-abbrev waits_by : Act → Bool → Bool
-waits_by act u = not (is_store_conditional act) && not ((only_loads act || may_store act) && u)
-
--- the same where there is an owner, and whether it is this hart is known
-abbrev own_if : Bool → Act → Bool → Bool
-own_if b act u = (not (not b) && not (may_store act && u)) && not (is_store_conditional act) && (b || (only_loads act && u))
-
-waits_if : (b : Bool) (act : Act) (u : Bool) (h : ℕ) → (own_if b act u && not (own_by None h act u)) ≡ (b && waits_by act u)
-waits_if false act u h = refl
-waits_if true Reads u h = refl
-waits_if true Writes true h = refl
-waits_if true Writes false h = refl
-waits_if true Reserves u h = refl
-waits_if true Tries true h = refl
-waits_if true Tries false h = refl
-
-not_both : (b : Bool) → (b && not b) ≡ false
-not_both true = refl
-not_both false = refl
-
+-- ---- whether a hart takes a step that touches a word of its own, or one that can't be written
 none_of : (o : Option ℕ) → is_some o ≡ true → is_none o ≡ false
 none_of None e = absurd (true≢false (sym e))
 none_of (Some x) e = refl
+
+none_alone : (o : Option ℕ) (b : Bool) → (is_none o && b) ≡ true → o ≡ None
+none_alone None b e = refl
+none_alone (Some x) b e = absurd (true≢false (sym e))
+
+and_all : (b : Bool) → (b && true) ≡ b
+and_all true = refl
+and_all false = refl
 
 never : (a b : Bool) → ((a && false) && b) ≡ false
 never true b = refl
 never false b = refl
 
+-- a memory that keeps the image's code and rights tells the same of it
+pub touches_kept : (goes : Bool) (owners : Owners) (m n : Memory) (h : ℕ) (v : HartValue) → Keeps m n
+    → ((goes && is_alone owners n h v) && is_some (touch_ahead n v)) ≡ ((goes && is_alone owners m h v) && is_some (touch_ahead m v))
+touches_kept goes owners m n h v keeps =
+    ap (λ b. (goes && b) && is_some (touch_ahead n v)) (alone_kept owners m n h v keeps) ∙ by_alone (is_alone owners m h v) refl
+  where
+    by_alone : (b : Bool) → is_alone owners m h v ≡ b
+        → ((goes && b) && is_some (touch_ahead n v)) ≡ ((goes && b) && is_some (touch_ahead m v))
+    by_alone true e =
+        ap (λ t. (goes && true) && is_some t)
+        (touch_kept m n v keeps (none_alone (code_ahead m v) (is_own_if owners m h (touch_ahead m v)) e))
+    by_alone false e = never goes (is_some (touch_ahead n v)) ∙ sym (never goes (is_some (touch_ahead m v)))
+
 module _ (habits : Habits) (m : Memory) (w : World) (h : ℕ) (v : HartValue) (there : slice_get w.harts h ≡ Some v) (keeps : Keeps m w.memory) where
   -- by the image's memory
-  abbrev told : Bool
-  told = takes_quiet_step habits m h v && not (is_alone nobodys m h v)
-
-  own_told : takes_own_step habits w h ≡ told
+  own_told : takes_own_step habits w h ≡ (takes_quiet_step habits m h v && is_some (touch_ahead m v))
   own_told =
-      ap (takes_own_by habits w h) there
-      ∙ ap (λ b. (runs_outside habits.section v && b) && not (is_alone nobodys w.memory h v)) (alone_kept habits.owners m w.memory h v keeps)
-      ∙ ap (λ b. takes_quiet_step habits m h v && not b) (alone_kept nobodys m w.memory h v keeps)
+      ap (takes_own_by habits w h) there ∙ touches_kept (runs_outside habits.section v) habits.owners m w.memory h v keeps
 
   pub own_stands : runs_outside habits.section v ≡ false → false ≡ takes_own_step habits w h
   own_stands stands =
-      sym (own_told ∙ ap (λ b. (b && is_alone habits.owners m h v) && not (is_alone nobodys m h v)) stands)
+      sym (own_told ∙ ap (λ b. (b && is_alone habits.owners m h v) && is_some (touch_ahead m v)) stands)
 
   pub own_unknown : is_some (code_ahead m v) ≡ true → false ≡ takes_own_step habits w h
   own_unknown some_ =
       let goes = runs_outside habits.section v in
-      let alone = is_alone nobodys m h v in
       sym (own_told
-      ∙ ap (λ b. (goes && (b && is_own_if habits.owners m h (touch_ahead m v))) && not alone) (none_of (code_ahead m v) some_)
-      ∙ never goes (not alone))
+      ∙ ap (λ b. (goes && (b && is_own_if habits.owners m h (touch_ahead m v))) && is_some (touch_ahead m v)) (none_of (code_ahead m v) some_)
+      ∙ never goes (is_some (touch_ahead m v)))
 
-  pub own_nowhere : code_ahead m v ≡ None → touch_ahead m v ≡ None → false ≡ takes_own_step habits w h
-  own_nowhere none nothing =
+  pub own_nowhere : touch_ahead m v ≡ None → false ≡ takes_own_step habits w h
+  own_nowhere nothing =
       let quiet = takes_quiet_step habits m h v in
+      sym (own_told ∙ ap (λ t. quiet && is_some t) nothing ∙ and_right quiet false refl)
+
+  pub own_touch : (t : Touch) → runs_outside habits.section v ≡ true → code_ahead m v ≡ None → touch_ahead m v ≡ Some t
+      → is_own_touch habits.owners m h t ≡ takes_own_step habits w h
+  own_touch t goes none touch =
       sym (own_told
-      ∙ ap (λ o. quiet && not (is_none o && is_own_if nobodys m h (touch_ahead m v))) none
-      ∙ ap (λ p. quiet && not (is_own_if nobodys m h p)) nothing ∙ and_right quiet false refl)
-
-  module _ (t : Touch) (goes : runs_outside habits.section v ≡ true) (none : code_ahead m v ≡ None) (touch : touch_ahead m v ≡ Some t) where
-    alone_touch : (owners : Owners) → is_alone owners m h v ≡ is_own_touch owners m h t
-    alone_touch owners =
-        ap (λ o. is_none o && is_own_if owners m h (touch_ahead m v)) none ∙ ap (is_own_if owners m h) touch
-
-    by_touch : takes_own_step habits w h ≡ (is_own_touch habits.owners m h t && not (is_own_touch nobodys m h t))
-    by_touch =
-        own_told ∙ ap (λ b. (b && is_alone habits.owners m h v) && not (is_alone nobodys m h v)) goes
-        ∙ ap (λ b. b && not (is_alone nobodys m h v)) (alone_touch habits.owners)
-        ∙ ap (λ b. is_own_touch habits.owners m h t && not b) (alone_touch nobodys)
-
-    by_owner : (o : Option ℕ) → o ≡ habits.owners t.word
-        → takes_own_step habits w h ≡ (own_by o h t.act (is_unwritable m t.word) && not (is_own_touch nobodys m h t))
-    by_owner o owner =
-        by_touch ∙ ap (λ p. own_by p h t.act (is_unwritable m t.word) && not (is_own_touch nobodys m h t)) (sym owner)
-
-    pub own_of_nobody : None ≡ habits.owners t.word → false ≡ takes_own_step habits w h
-    own_of_nobody owner = sym (by_owner None owner ∙ not_both (is_own_touch nobodys m h t))
-
-    pub own_of_hart : (k : ℕ) → Some k ≡ habits.owners t.word → ((k == h) && waits_on_own m t) ≡ takes_own_step habits w h
-    own_of_hart k owner = sym (by_owner (Some k) owner ∙ waits_if (k == h) t.act (is_unwritable m t.word) h)
-
--- where no word has an owner no step is on an own word
-pub none_owned : (section : Option Section) (words : List OwnWord) (w : World) (h : ℕ) → (length words == 0) ≡ true
-    → false ≡ takes_own_step (habits_with section (owners_in words)) w h
-none_owned section [] w h e = by_hart (slice_get w.harts h)
-  where
-    not_both : (a b : Bool) → false ≡ (a && b) && not b
-    not_both false b = refl
-    not_both true true = refl
-    not_both true false = refl
-
-    by_hart : (o : Option HartValue) → false ≡ takes_own_by (habits_with section (owners_in [])) w h o
-    by_hart None = refl
-    by_hart (Some v) = not_both (not_stopped v.state && not (rests_in section v)) (is_alone nobodys w.memory h v)
-none_owned section (own ∷ words) w h e = absurd (let none = eqb-true (length (own ∷ words)) 0 e in omega (arith, none))
+      ∙ ap (λ b. (b && is_alone habits.owners m h v) && is_some (touch_ahead m v)) goes
+      ∙ ap (λ o. (is_none o && is_own_if habits.owners m h (touch_ahead m v)) && is_some (touch_ahead m v)) none
+      ∙ ap (λ p. is_own_if habits.owners m h p && is_some p) touch
+      ∙ and_all (is_own_touch habits.owners m h t))

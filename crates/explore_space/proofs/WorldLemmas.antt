@@ -1,7 +1,7 @@
 -- Worlds by their words, and what a turn changes in a key and in its world's harts.
-use Rattle.std.proofs.Common.{◌≡◌, ◌≢◌, ℕ, zero, suc, ◌+◌, ◌*◌, ◌%◌, ◌<◌, ◌≤◌, false, ◌||◌, ◌==◌, List, [], ◌∷◌, ◌++◌, length, map, take, set, Option, Some, None, refl, ap, sym, ◌∙◌, subst, arith, inl, inr, eq-eqb}
+use Rattle.std.proofs.Common.{◌≡◌, ◌≢◌, ℕ, zero, suc, ◌+◌, ◌%◌, ◌<◌, ◌≤◌, true, false, ◌||◌, ◌==◌, List, [], ◌∷◌, ◌++◌, length, map, take, set, Option, Some, None, refl, ap, sym, ◌∙◌, subst, arith, inl, inr, eq-eqb}
 use Rattle.std.proofs.lemmas.Bool.{cases_eq, ne_eqb}
-use Rattle.std.proofs.lemmas.List.{length-set, get_or-set_same, get_or-set_other, set-set, set-get_or, take-set-le}
+use Rattle.std.proofs.lemmas.List.{length-set, length-take, length-take-le, get_or-set_same, get_or-set_other, get_or-take, get_or_past, set-set, set-get_or, take-set-le}
 use Rattle.std.proofs.lemmas.Option.{get_or_from_slice_get}
 use Rattle.std.specs.List.{slice_get, slice_index}
 use Rattle.mem_store.specs.Memory.{Memory}
@@ -16,7 +16,7 @@ use Rattle.bank_laws.specs.Banks.{WordBytes}
 use Rattle.bank_laws.specs.Words.{bytes_at}
 use Rattle.bank_laws.proofs.WordLemmas.{index_at}
 use Rattle.explore_space.specs.Habits.{Habits, stride_by_habit}
-use Rattle.explore_space.specs.Places.{memory_over, world_turned}
+use Rattle.explore_space.specs.Places.{chosen_by_key, chosen_worded, memory_over, world_turned}
 
 -- ---- memory from its words
 word_and_rest : (y : ℕ) → word_of y + y % 4 ≡ y
@@ -58,40 +58,45 @@ map_same f g [] same = refl
 map_same {Y} f g (x ∷ xs) same =
     ap (λ (y : Y). y ∷ map f xs) (same zero x refl) ∙ ap (λ (ys : List Y). g x ∷ ys) (map_same f g xs (λ k i e. same (suc k) i e))
 
--- ---- a key with another hart at a number, which is marked as chosen, and other things shared
-module _ (n number id shared_id : ℕ) (key next : List ℕ) (low : number < n) (long : length key ≡ 2 * n + 1)
-    (next_is : next ≡ set (set (set key number id) n shared_id) (n + 1 + number) 1) where
-  pub taken : take n next ≡ set (take n key) number id
-  taken = ap (take n) next_is ∙ take-set-le n (set (set key number id) n shared_id) (n + 1 + number) 1 (omega arith)
-      ∙ take-set-le n (set key number id) n shared_id (omega arith) ∙ take-set n key number id
+-- ---- a key with another word at a hart's number, and other things shared
+module _ (n number word shared_id : ℕ) (key next : List ℕ) (long : length key ≡ n + 1) (next_is : next ≡ set (set key number word) n shared_id) where
+  pub taken : take n next ≡ set (take n key) number word
+  taken = ap (take n) next_is ∙ take-set-le n (set key number word) n shared_id (omega arith) ∙ take-set n key number word
 
   pub shared_after : slice_index next n ≡ shared_id
   shared_after = ap (λ (xs : List ℕ). slice_index xs n) next_is
-      ∙ get_or-set_other (set (set key number id) n shared_id) (n + 1 + number) n 1 0 (λ e. omega (arith, e))
-      ∙ get_or-set_same (set key number id) n shared_id 0 (let a = length-set key number id in omega (arith, a, long))
+      ∙ get_or-set_same (set key number word) n shared_id 0 (let a = length-set key number word in omega (arith, a, long))
 
-  marked : slice_index next (n + 1 + number) ≡ 1
-  marked = ap (λ (xs : List ℕ). slice_index xs (n + 1 + number)) next_is
-      ∙ get_or-set_same (set (set key number id) n shared_id) (n + 1 + number) 1 0
-      (let a = length-set (set key number id) n shared_id in let b = length-set key number id in omega (arith, a, b, long, low))
+-- ---- who is chosen
+-- none past the harts of a key
+pub unmarked_past : (n : ℕ) (key : List ℕ) (k : ℕ) → n ≤ k → chosen_by_key n key k ≡ false
+unmarked_past n key k past =
+    ap chosen_worded (get_or_past (take n key) k 0 (let few = length-take n key in omega (arith, few, past)))
 
-  unmarked : (k : ℕ) → number ≢ k → slice_index next (n + 1 + k) ≡ slice_index key (n + 1 + k)
-  unmarked k other = ap (λ (xs : List ℕ). slice_index xs (n + 1 + k)) next_is
-      ∙ get_or-set_other (set (set key number id) n shared_id) (n + 1 + number) (n + 1 + k) 1 0 (λ e. other (omega (arith, e)))
-      ∙ get_or-set_other (set key number id) n (n + 1 + k) shared_id 0 (λ e. omega (arith, e))
-      ∙ get_or-set_other key number (n + 1 + k) id 0 (λ e. omega (arith, e, low))
+-- by a key with another word at a hart's number
+module _ (n number word : ℕ) (key next : List ℕ) (low : number < n) (long : length key ≡ n + 1)
+    (taken_is : take n next ≡ set (take n key) number word) where
+  word_here : slice_index (take n next) number ≡ word
+  word_here = ap (λ (xs : List ℕ). slice_index xs number) taken_is
+      ∙ get_or-set_same (take n key) number word 0 (let a = length-take-le n key (omega (arith, long)) in omega (arith, a, low))
 
-  pub flags_after : ((k : ℕ) → slice_index key (n + 1 + k) ≤ 1) → (k : ℕ) → slice_index next (n + 1 + k) ≤ 1
-  flags_after flags k = elim (cases_eq number k) [
-    | inl here ↦ subst (λ j. slice_index next (n + 1 + j) ≤ 1) here (omega (arith, marked))
-    | inr other ↦ (let a = unmarked k other in let b = flags k in omega (arith, a, b))
+  word_other : (k : ℕ) → number ≢ k → slice_index (take n next) k ≡ slice_index (take n key) k
+  word_other k other = ap (λ (xs : List ℕ). slice_index xs k) taken_is ∙ get_or-set_other (take n key) number k word 0 (λ e. other (sym e))
+
+  -- the hart of an odd word, and who was chosen before
+  pub chosen_after : chosen_worded word ≡ true → (k : ℕ) → chosen_by_key n next k ≡ ((number == k) || chosen_by_key n key k)
+  chosen_after marked k = elim (cases_eq number k) [
+    | inl is ↦ ap (chosen_by_key n next) (sym is) ∙ ap chosen_worded word_here ∙ marked
+        ∙ ap (λ b. b || chosen_by_key n key k) (sym (eq-eqb number k is))
+    | inr other ↦ ap chosen_worded (word_other k other) ∙ ap (λ b. b || chosen_by_key n key k) (sym (ne_eqb number k other))
   ]
 
-  pub chosen_after : (k : ℕ) → (slice_index next (n + 1 + k) == 1) ≡ ((number == k) || (slice_index key (n + 1 + k) == 1))
-  chosen_after k = elim (cases_eq number k) [
-    | inl is ↦ ap (λ j. slice_index next (n + 1 + j) == 1) (sym is) ∙ ap (λ v. v == 1) marked
-        ∙ ap (λ b. b || (slice_index key (n + 1 + k) == 1)) (sym (eq-eqb number k is))
-    | inr other ↦ ap (λ v. v == 1) (unmarked k other) ∙ ap (λ b. b || (slice_index key (n + 1 + k) == 1)) (sym (ne_eqb number k other))
+  -- the same harts, where the mark stays
+  pub chosen_stays : chosen_worded word ≡ chosen_worded (slice_index key number) → (k : ℕ) → chosen_by_key n next k ≡ chosen_by_key n key k
+  chosen_stays same k = elim (cases_eq number k) [
+    | inl is ↦ subst (λ j. chosen_by_key n next j ≡ chosen_by_key n key j) is
+        (ap chosen_worded word_here ∙ same ∙ ap chosen_worded (sym (get_or-take n key number 0 low)))
+    | inr other ↦ ap chosen_worded (word_other k other)
   ]
 
 -- ---- a turn changes its hart alone

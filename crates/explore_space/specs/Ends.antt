@@ -1,5 +1,5 @@
 -- How runs end after which no hart runs.
-use Rattle.std.specs.Prelude.{◌≡◌, ◌≢◌, ◌⊎◌, ℕ, ◌+◌, ◌*◌, ◌<◌, ◌==◌, false, List, [], ◌∷◌, ◌++◌, Option, Some, length, map, take, slice_get, slice_index}
+use Rattle.std.specs.Prelude.{◌≡◌, ◌≢◌, ◌⊎◌, ℕ, ◌+◌, ◌/◌, ◌<◌, false, List, [], ◌∷◌, ◌++◌, Option, Some, length, map, take, slice_get}
 use Rattle.std.specs.List.{AllPairs, Contains}
 use Rattle.hart_step.specs.Hart.{HartValue}
 use Rattle.hart_step.specs.declared.hart.Hart.{Hart}
@@ -9,7 +9,7 @@ use Rattle.outcome.specs.Expect.{judged}
 use Rattle.outcome.specs.Outcome.{some_run}
 use Rattle.outcome.specs.declared.run_outcome.Outcome.{Outcome}
 use Rattle.explore_space.specs.Failing.{one_each}
-use Rattle.explore_space.specs.Places.{hart_numbered}
+use Rattle.explore_space.specs.Places.{chosen_by_key, hart_worded}
 use Rattle.explore_space.specs.declared.run_end.Ends.{Ends}
 use Rattle.explore_space.specs.declared.run_end.Returned.{Returned}
 use Rattle.explore_space.specs.declared.run_end.RunEnd.{RunEnd}
@@ -38,17 +38,17 @@ returned_by hart = record { a0 = a0_of hart; a1 = a1_of hart }
 abbrev pub end_with : Outcome → List HartValue → EndValue
 end_with outcome harts = record { outcome = outcome; returned = map returned_by harts }
 
--- a row is a key of n harts, whose numbers are below a count
+-- a row is a key of n harts, whose words are of numbers below a count
 abbrev pub FitsHarts : ℕ → ℕ → List ℕ → Type 0
-FitsHarts n count key = (length key ≡ 2 * n + 1) × ((k id : ℕ) → slice_get (take n key) k ≡ Some id → id < count)
+FitsHarts n count key = (length key ≡ n + 1) × ((k word : ℕ) → slice_get (take n key) k ≡ Some word → word / 2 < count)
 
 -- the harts at a key, and their end
 abbrev pub harts_at : List ℕ → List Hart → List ℕ → List HartValue
-harts_at inputs harts key = map (hart_numbered harts) (take (length inputs) key)
+harts_at inputs harts key = map (hart_worded harts) (take (length inputs) key)
 
 abbrev pub end_at : Option Kind → List ℕ → List Hart → List ℕ → EndValue
 end_at rule inputs harts key =
-    end_with (judged rule inputs (one_each (length inputs) (λ k. slice_index key (length inputs + 1 + k) == 1)) (harts_at inputs harts key))
+    end_with (judged rule inputs (one_each (length inputs) (chosen_by_key (length inputs) key)) (harts_at inputs harts key))
     (harts_at inputs harts key)
 
 -- an end is that at one of some keys, where no hart runs

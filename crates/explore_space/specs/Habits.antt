@@ -1,5 +1,7 @@
--- What harts take at once: local steps, and steps on words of their own, but none in a section.
-use Rattle.std.specs.Prelude.{ℕ, zero, suc, ◌+◌, Bool, false, not, ◌&&◌, ◌||◌, ◌==◌, if◌then◌else◌, List, [], ◌∷◌, Option, Some, None, slice_get}
+-- What harts take at once: local steps, steps on words of their own, and loads of words that can't be
+-- written, but none in a section.
+use Rattle.std.specs.Prelude.{ℕ, zero, suc, ◌+◌, Bool, false, not, ◌&&◌, ◌==◌, if◌then◌else◌, List, [], ◌∷◌, Option, Some, None, slice_get}
+use Rattle.std.specs.Option.{is_some}
 use Rattle.mem_store.specs.Memory.{Memory}
 use Rattle.hart_step.specs.Hart.{HartValue}
 use Rattle.hart_local.specs.LocalRuns.{plain_choices}
@@ -7,9 +9,7 @@ use Rattle.machine.specs.World.{World, step, run}
 use Rattle.explore_laws.specs.Bounds.{not_stopped}
 use Rattle.explore_laws.specs.Quiet.{OfNextStep}
 use Rattle.explore_laws.specs.Settling.{Stride}
-use Rattle.bank_laws.specs.Runs.{Touch}
-use Rattle.bank_laws.specs.Table.{is_unwritable}
-use Rattle.explore_sites.specs.Own.{Owners, clear_in, is_alone, is_store_conditional, may_store, only_loads, unrefused}
+use Rattle.explore_sites.specs.Own.{Owners, clear_in, is_alone, touch_ahead, unrefused}
 use Rattle.explore_space.specs.Resting.{resting_steps, rests_in}
 use Rattle.explore_space.specs.declared.own_words.OwnWord.{OwnWord}
 use Rattle.explore_space.specs.declared.section.Section.{Section}
@@ -53,19 +53,13 @@ clear_by_habit habits w h = clear_in habits.owners w h
 abbrev pub nobodys : Owners
 nobodys x = None
 
--- whether a quiet step touches a word that belongs to its hart
+-- whether a quiet step touches a word: one of its hart's own, or one that can't be written
 abbrev pub takes_own_by : Habits → World → ℕ → Option HartValue → Bool
 takes_own_by habits w h None = false
-takes_own_by habits w h (Some v) = takes_quiet_step habits w.memory h v && not (is_alone nobodys w.memory h v)
+takes_own_by habits w h (Some v) = takes_quiet_step habits w.memory h v && is_some (touch_ahead w.memory v)
 
 abbrev pub takes_own_step : Habits → OfNextStep
 takes_own_step habits w h = takes_own_by habits w h (slice_get w.harts h)
-
--- whether a step with this touch of an own word is one: it is no store-conditional's, which a
--- refusal changes, and neither loads a word that can't be written nor stores into it
-abbrev pub waits_on_own : Memory → Touch → Bool
-waits_on_own m t =
-    not (is_store_conditional t.act) && not ((only_loads t.act || may_store t.act) && is_unwritable m t.word)
 
 -- the local steps that hart h takes at once in a world
 abbrev pub local_stride : Habits → Stride
@@ -75,8 +69,8 @@ local_stride habits w h = resting_steps habits.section w (slice_get w.harts h)
 abbrev pub world_rested : Habits → World → ℕ → World
 world_rested habits w h = run w (plain_choices h (local_stride habits w h))
 
--- as long as the hart's next step touches a word of its own, at most n times, that step and the local
--- steps behind it
+-- as long as the hart's next step touches a word so, at most n times, that step and the local steps
+-- behind it
 unfoldable pub own_stride : Habits → ℕ → Stride
 own_stride habits zero w h = 0
 own_stride habits (suc n) w h =
@@ -85,7 +79,7 @@ own_stride habits (suc n) w h =
     + own_stride habits n (world_rested habits (step w (unrefused h)) h) h)
     else 0
 
--- how many steps on its own words a hart takes at once at most
+-- how many steps that touch words a hart takes at once at most
 abbrev pub own_at_once : ℕ
 own_at_once = 64
 

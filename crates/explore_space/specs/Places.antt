@@ -1,6 +1,6 @@
--- The place that a key stands for: numbers of harts, of what they share, and marks of who was
--- chosen.
-use Rattle.std.specs.Prelude.{◌≡◌, ◌≢◌, ℕ, ◌+◌, ◌*◌, ◌%◌, ◌<◌, ◌≤◌, ◌==◌, List, [], Option, Some, None, take, map, length, slice_get, slice_index}
+-- The place that a key stands for: words that tell a hart's number and whether it was chosen, and
+-- the number of what harts share.
+use Rattle.std.specs.Prelude.{◌≡◌, ◌≢◌, ℕ, ◌+◌, ◌/◌, ◌%◌, ◌<◌, ◌==◌, Bool, List, [], Option, Some, None, take, map, length, slice_get, slice_index}
 use Rattle.std.specs.List.{All, AllPairs}
 use Rattle.image.specs.Image.{ImageValue}
 use Rattle.mem_store.specs.Memory.{Memory}
@@ -30,6 +30,18 @@ hart_in (Some h) = hart_of h
 abbrev pub hart_numbered : List Hart → ℕ → HartValue
 hart_numbered harts id = hart_in (slice_get harts id)
 
+-- the hart of a word of a key: the kept hart whose number is half of it
+abbrev pub hart_worded : List Hart → ℕ → HartValue
+hart_worded harts word = hart_numbered harts (word / 2)
+
+-- and whether it was chosen: such a word is odd
+abbrev pub chosen_worded : ℕ → Bool
+chosen_worded word = word % 2 == 1
+
+-- whether hart k was chosen by a key of n harts; none past these was
+abbrev pub chosen_by_key : ℕ → List ℕ → ℕ → Bool
+chosen_by_key n key k = chosen_worded (slice_index (take n key) k)
+
 -- the cells and the reservations of a number
 abbrev pub cells_in : {Z : Type 0} → Option (Shared Z) → List Cell
 cells_in None = []
@@ -46,7 +58,7 @@ memory_over m values = record { rights = m.rights; bytes = λ y. slice_index (va
 -- the world of a key of n harts
 abbrev pub world_of_key : {Z : Type 0} → ImageValue → ℕ → List Hart → List (Shared Z) → List ℕ → World
 world_of_key image n harts shareds key = record {
-  harts = map (hart_numbered harts) (take n key);
+  harts = map (hart_worded harts) (take n key);
   memory = memory_over (image_memory image) (words_shown image (cells_in (slice_get shareds (slice_index key n))));
   reserved = marks_in (slice_get shareds (slice_index key n));
 }
@@ -56,7 +68,7 @@ abbrev pub place_of_key : {Z : Type 0} → Habits → ImageValue → ℕ → Lis
 place_of_key habits image n harts shareds key = record {
   stride = stride_by_habit habits;
   world = world_of_key image n harts shareds key;
-  chosen = λ k. slice_index key (n + 1 + k) == 1;
+  chosen = chosen_by_key n key;
 }
 
 -- kept harts differ
@@ -79,10 +91,9 @@ KeptOnce image harts shareds = HartsDiffer harts × SharedsDiffer image shareds
 
 -- a row of words is a key
 pub record IsKey {Z : Type 0} (image : ImageValue) (n : ℕ) (known : List Hart) (shareds : List (Shared Z)) (key : List ℕ) : Type 0 where
-  pub len : length key ≡ 2 * n + 1
-  pub harts : (k id : ℕ) → slice_get (take n key) k ≡ Some id → id < length known
+  pub len : length key ≡ n + 1
+  pub harts : (k word : ℕ) → slice_get (take n key) k ≡ Some word → word / 2 < length known
   pub shared : slice_index key n < length shareds
-  pub flags : (k : ℕ) → slice_index key (n + 1 + k) ≤ 1
   pub once : KeptOnce image known shareds
   pub keeps : Keeps (image_memory image) (world_of_key image n known shareds key).memory
   pub words : (x : ℕ) → x % 4 ≡ 0 → words_shown image (cells_in (slice_get shareds (slice_index key n))) x

@@ -1,5 +1,5 @@
 //! The key of the place in which turns start, and the steps that harts have taken there.
-ghost use Rattle.std.specs.Prelude.{◌≡◌, ◌<◌, ℕ, Some, IfOk, length, slice_get, slice_index};
+ghost use Rattle.std.specs.Prelude.{◌≡◌, ◌/◌, ◌<◌, ℕ, Some, IfOk, length, slice_get, slice_index};
 ghost use Rattle.mem_store.specs.Image.{image_memory, segments_memory};
 ghost use Rattle.hart_local.specs.CodeMemory.{code_in};
 ghost use Rattle.machine.specs.Start.{started};
@@ -8,13 +8,14 @@ ghost use Rattle.hart_step.specs.Hart.{hart_of};
 ghost use Rattle.explore_laws.specs.Places.{place_begun};
 ghost use Rattle.explore_space.specs.Begun.{first_steps, runs_outside, place_hart_begun, place_rested, turns_start};
 ghost use Rattle.explore_space.specs.Habits.{habits_of, stride_by_habit};
-ghost use Rattle.explore_space.specs.Places.{IsKey, IsKeyOf, KeysStay, hart_numbered, place_of_key};
+ghost use Rattle.explore_space.specs.Places.{IsKey, IsKeyOf, KeysStay, hart_worded, place_of_key};
 
 use crate::first::first_harts;
 use crate::kept::{KeptHarts, keep_hart};
 use crate::section::Section;
 use crate::settling::{LocalCode, runs_outside, settle};
 use crate::shared::Shared;
+use crate::word::{hart_of_word, is_chosen_word, word_of_hart};
 use hart_step::Hart;
 use image::Image;
 use machine::Inputs;
@@ -28,10 +29,10 @@ fn runs_outside_at<A: Allocator>(
     section: Option<Section>,
 ) -> bool
     requires there { number < length key.now }
-    requires known { slice_index key.now number < length harts.now.parts.items }
-    ensures { result ≡ runs_outside section (hart_numbered harts.now.parts.items (slice_index key.now number)) }
+    requires known { slice_index key.now number / 2 < length harts.now.parts.items }
+    ensures { result ≡ runs_outside section (hart_worded harts.now.parts.items (slice_index key.now number)) }
 {
-    runs_outside(&harts.parts[key[number] as usize], section)
+    runs_outside(&harts.parts[hart_of_word(key[number]) as usize], section)
 }
 
 // The key of the place where a hart has taken its local steps.
@@ -54,13 +55,11 @@ fn rested_key<A: Allocator + Copy>(
     let _ = image;
     let _ = shareds;
     let mut next = key;
-    let mut hart = harts.parts[next[number] as usize];
+    let word = next[number];
+    let mut hart = harts.parts[hart_of_word(word) as usize];
     settle(&mut hart, code);
     let id = keep_hart(harts, hart)?;
-    if id > 0xffff_ffff {
-        return Err(AllocError);
-    }
-    next[number] = id as u32;
+    next[number] = word_of_hart(id, is_chosen_word(word))?;
     Ok(next)
 }
 

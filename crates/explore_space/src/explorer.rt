@@ -1,5 +1,5 @@
 //! The worlds of a program.
-ghost use Rattle.std.specs.Prelude.{◌≡◌, ◌+◌, ◌<◌, ◌==◌, ℕ, Bool, List, IfOk, length, map, slice_get, slice_index, take};
+ghost use Rattle.std.specs.Prelude.{◌≡◌, ◌<◌, ℕ, IfOk, length, map, slice_get, take};
 ghost use Rattle.machine.specs.Start.{started};
 ghost use Rattle.explore_laws.specs.OwnSteps.{steps_in_turn};
 ghost use Rattle.outcome.specs.Expect.{fails, judged};
@@ -8,13 +8,14 @@ ghost use Rattle.mem_store.specs.Image.{image_memory, segments_memory};
 ghost use Rattle.hart_local.specs.CodeMemory.{code_in};
 ghost use Rattle.explore_space.specs.Begun.{turns_start};
 ghost use Rattle.explore_space.specs.Habits.{habits_of, owners_in, stride_by_habit};
-ghost use Rattle.explore_space.specs.Places.{IsKey, hart_numbered, place_of_key, world_of_key};
+ghost use Rattle.explore_space.specs.Places.{IsKey, chosen_by_key, hart_worded, place_of_key, world_of_key};
 ghost use Rattle.explore_space.specs.Failing.{breaks_section, breaks_word, ends_search, ends_there, fails_there, one_each, strays_by, strays_from};
 
 use crate::failing::{breaks_word, fails_at, harts_within, has_ended_at};
 use crate::known::Known;
 use crate::question::Always;
 use crate::settling::LocalCode;
+use crate::word::hart_of_word;
 use explore_search::Space;
 use hart_step::Hart;
 use image::Image;
@@ -60,7 +61,7 @@ impl<'a, A: Allocator + Copy> Explorer<'a, A> {
         })
     }
 
-    /// The harts that are known, by their numbers in keys.
+    /// The harts that are known, by the numbers that keys' words tell.
     pub fn known_harts(&self) -> &[Hart]
         ensures { result.now ≡ self.now.known.harts.parts.items }
     {
@@ -117,7 +118,7 @@ impl<'a, A: Allocator + Copy> Explorer<'a, A> {
             (slice_get (world_of_key self.now.known.image.now (length self.now.inputs.now)
             self.now.known.harts.parts.items self.now.known.shareds.parts.items key.now).harts number) }
     {
-        let hart = &self.known.harts.parts[key[number as usize] as usize];
+        let hart = &self.known.harts.parts[hart_of_word(key[number as usize]) as usize];
         self.known.code.strays(self.known.image, hart, number)
     }
 
@@ -144,8 +145,8 @@ impl<'a, A: Allocator + Copy> Explorer<'a, A> {
         requires { IsKey self.now.known.image.now (length self.now.inputs.now) self.now.known.harts.parts.items
             self.now.known.shareds.parts.items key.now }
         ensures { IfOk result (λ answer. answer ≡ fails May (judged self.now.rule self.now.inputs.now
-            (one_each (length self.now.inputs.now) (λ k. slice_index key.now (length self.now.inputs.now + 1 + k) == 1))
-            (map (hart_numbered self.now.known.harts.parts.items) (take (length self.now.inputs.now) key.now)))) }
+            (one_each (length self.now.inputs.now) (chosen_by_key (length self.now.inputs.now) key.now))
+            (map (hart_worded self.now.known.harts.parts.items) (take (length self.now.inputs.now) key.now)))) }
     {
         fails_at(
             self.alloc,
@@ -189,9 +190,14 @@ impl<'a, A: Allocator + Copy> Space<A> for Explorer<'a, A> {
         self.known.begin(self.alloc, self.inputs)
     }
 
-    fn key_after(&mut self, key: &[u32], choice: Choice) -> Result<Vec<u32, A>, AllocError> {
+    fn key_after(
+        &mut self,
+        key: &[u32],
+        choice: Choice,
+        next: &mut Vec<u32, A>,
+    ) -> Result<(), AllocError> {
         let count = self.inputs.harts() as usize;
-        self.known.key_after(self.alloc, count, key, choice)
+        self.known.key_after(self.alloc, count, key, choice, next)
     }
 
     fn is_bad(&self, key: &[u32]) -> Result<bool, AllocError> {

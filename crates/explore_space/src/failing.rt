@@ -1,5 +1,6 @@
 //! Whether the run to a key's place has failed, and whether it has ended.
-ghost use Rattle.std.specs.Prelude.{◌≡◌, ◌<◌, ◌≤◌, ◌+◌, ◌*◌, ◌%◌, ◌==◌, ◌&&◌, nat_lt, not, ℕ, Bool, Some, IfOk, length, map, slice_get, slice_index, take};
+ghost use Rattle.std.specs.Prelude.{◌≡◌, ◌<◌, ◌≤◌, ◌+◌, ◌/◌, ◌%◌, not, ℕ, Some, IfOk, length, map, slice_get, take};
+ghost use Rattle.std.specs.List.{list_all};
 ghost use Rattle.hart_step.specs.Hart.{hart_of};
 ghost use Rattle.machine.specs.World.{World};
 ghost use Rattle.mem_store.specs.Image.{image_memory};
@@ -9,12 +10,15 @@ ghost use Rattle.outcome.specs.Expect.{fails, judged};
 ghost use Rattle.outcome.specs.Outcome.{some_run};
 ghost use Rattle.outcome.specs.declared.expect.Exit.TheVariants.{May};
 ghost use Rattle.sched_run.specs.Chosen.{harts_of};
-ghost use Rattle.explore_space.specs.Places.{hart_numbered};
+ghost use Rattle.explore_laws.specs.Bounds.{not_stopped};
+ghost use Rattle.explore_space.specs.Places.{chosen_by_key, hart_worded};
 ghost use Rattle.property_judge.specs.Property.{harts_between};
 ghost use Rattle.explore_space.specs.Failing.{breaks_word, one_each};
 
 use crate::question::Always;
 use crate::section::Section;
+use crate::settling::is_running;
+use crate::word::{hart_at, hart_of_word, is_chosen_word};
 use explore_sites::{Cell, word_read};
 use hart_step::Hart;
 use image::Image;
@@ -32,25 +36,25 @@ pub fn harts_by_key<A: Allocator>(
     key: &[u32],
 ) -> Result<Vec<Hart, A>, AllocError>
     requires long { count ≤ length key.now }
-    requires there { (k id : ℕ) → slice_get (take count key.now) k ≡ Some id → id < length harts.now }
-    ensures { IfOk result (λ ends. map hart_of ends.items ≡ map (hart_numbered harts.now) (take count key.now)) }
+    requires there { (k word : ℕ) → slice_get (take count key.now) k ≡ Some word → word / 2 < length harts.now }
+    ensures { IfOk result (λ ends. map hart_of ends.items ≡ map (hart_worded harts.now) (take count key.now)) }
 {
-    let mut ends = Vec::new(alloc);
+    let mut ends = Vec::with_capacity(alloc, count)?;
     'harts: for k in 0..count {
-        ends.push(harts[key[k] as usize])?;
+        ends.push(harts[hart_of_word(key[k]) as usize])?;
     }
     Ok(ends)
 }
 
-/// Which harts were chosen, by a key's marks.
+/// Which harts were chosen, by a key's words.
 pub fn chosen_by_key(count: usize, key: &[u32]) -> Chosen
     requires few { count ≤ 32 }
-    requires long { length key.now ≡ 2 * count + 1 }
-    ensures { (k : ℕ) → harts_of result k ≡ (nat_lt k count && (slice_index key.now (count + 1 + k) == 1)) }
+    requires long { count ≤ length key.now }
+    ensures { (k : ℕ) → harts_of result k ≡ chosen_by_key count key.now k }
 {
     let mut chosen = Chosen::new();
-    'marks: for k in 0..count {
-        if key[count + 1 + k] == 1 {
+    'harts: for k in 0..count {
+        if is_chosen_word(key[k]) {
             chosen.add(k);
         }
     }
@@ -88,13 +92,27 @@ pub fn harts_within<A: Allocator>(
     section: Section,
 ) -> Result<usize, AllocError>
     requires long { count ≤ length key.now }
-    requires there { (k id : ℕ) → slice_get (take count key.now) k ≡ Some id → id < length harts.now }
+    requires there { (k word : ℕ) → slice_get (take count key.now) k ≡ Some word → word / 2 < length harts.now }
     ensures { IfOk result (λ within. within
-        ≡ harts_between section.from section.to (map (hart_numbered harts.now) (take count key.now))) }
+        ≡ harts_between section.from section.to (map (hart_worded harts.now) (take count key.now))) }
 {
     let by_key = harts_by_key(alloc, harts, count, key)?;
     let within = count_within(by_key.as_slice(), section);
     Ok(within)
+}
+
+// Whether the harts of all these words of a key run.
+#[tactic(auto, using(crate::proofs::RunningLemmas::runs_on, crate::proofs::RunningLemmas::stops_at, crate::proofs::RunningLemmas::all_read))]
+fn all_run(harts: &[Hart], words: &[u32]) -> bool
+    requires there { (k word : ℕ) → slice_get words.now k ≡ Some word → word / 2 < length harts.now }
+    ensures { result ≡ list_all (λ word. not_stopped (hart_worded harts.now word).state) words.now }
+{
+    'words: for word in words {
+        if !is_running(hart_at(harts, *word)) {
+            return false;
+        }
+    }
+    true
 }
 
 /// Whether the run to a key's place has failed by its harts: its rule is broken, or without a rule a hart has
@@ -107,12 +125,16 @@ pub fn fails_at<A: Allocator + Copy>(
     key: &[u32],
 ) -> Result<bool, AllocError>
     requires few { length inputs.now ≤ 32 }
-    requires long { length key.now ≡ 2 * length inputs.now + 1 }
-    requires there { (k id : ℕ) → slice_get (take (length inputs.now) key.now) k ≡ Some id → id < length harts.now }
+    requires long { length inputs.now ≤ length key.now }
+    requires there { (k word : ℕ) → slice_get (take (length inputs.now) key.now) k ≡ Some word → word / 2 < length harts.now }
     ensures { IfOk result (λ answer. answer ≡ fails May (judged rule inputs.now
-        (one_each (length inputs.now) (λ k. slice_index key.now (length inputs.now + 1 + k) == 1))
-        (map (hart_numbered harts.now) (take (length inputs.now) key.now)))) }
+        (one_each (length inputs.now) (chosen_by_key (length inputs.now) key.now))
+        (map (hart_worded harts.now) (take (length inputs.now) key.now)))) }
 {
+    // Nothing is broken before a hart has stopped.
+    if all_run(harts, &key[..inputs.len()]) {
+        return Ok(false);
+    }
     let ends = harts_by_key(alloc, harts, inputs.len(), key)?;
     let chosen = chosen_by_key(inputs.len(), key);
     let expect = Expect {
@@ -131,8 +153,8 @@ pub fn has_ended_at<A: Allocator>(
     key: &[u32],
 ) -> Result<bool, AllocError>
     requires long { count ≤ length key.now }
-    requires there { (k id : ℕ) → slice_get (take count key.now) k ≡ Some id → id < length harts.now }
-    ensures { IfOk result (λ answer. answer ≡ not (some_run (map (hart_numbered harts.now) (take count key.now)))) }
+    requires there { (k word : ℕ) → slice_get (take count key.now) k ≡ Some word → word / 2 < length harts.now }
+    ensures { IfOk result (λ answer. answer ≡ not (some_run (map (hart_worded harts.now) (take count key.now)))) }
 {
     let by_key = harts_by_key(alloc, harts, count, key)?;
     let runs = some_run(by_key.as_slice());

@@ -15,20 +15,18 @@ use machine::{Inputs, Machine};
 use mem_flat::FlatStore;
 use std::alloc::{AllocError, Allocator};
 
-// Harts by their own numbers, what they share by 0, and that nobody was chosen.
+// The words of harts by their own numbers, of which nobody was chosen, and 0 for what they share.
 fn first_row<A: Allocator>(alloc: A, count: u32) -> Result<Vec<u32, A>, AllocError>
     requires { count ≤ 32 }
-    ensures len { IfOk result (λ row. length row.items ≡ 2 * count + 1) }
-    ensures harts { IfOk result (λ row. (k : ℕ) → k < count → slice_index row.items k ≡ k) }
-    ensures zeros { IfOk result (λ row. (k : ℕ) → slice_index row.items (count + k) ≡ 0) }
+    ensures len { IfOk result (λ row. length row.items ≡ count + 1) }
+    ensures harts { IfOk result (λ row. (k : ℕ) → k < count → slice_index row.items k ≡ 2 * k) }
+    ensures shared { IfOk result (λ row. slice_index row.items count ≡ 0) }
 {
     let mut row = Vec::new(alloc);
     'harts: for k in 0..count {
-        row.push(k)?;
+        row.push(2 * k)?;
     }
-    'zeros: for _ in 0..count + 1 {
-        row.push(0)?;
-    }
+    row.push(0)?;
     Ok(row)
 }
 

@@ -1,6 +1,7 @@
 //! A guess which words belong to one hart each. A wrong guess only makes a search begin anew, so no
 //! contract speaks of it.
 use crate::own_words::OwnWord;
+use bank_step::is_unwritable;
 use explore_sites::{NextTouch, next_touch};
 use hart_step::HartState;
 use image::Image;
@@ -30,7 +31,7 @@ fn note<A: Allocator + Copy>(
     Ok(())
 }
 
-// Takes a hart's next step and notes what it touches: whether the hart ran.
+// Takes a hart's next step and notes what it touches, if that may be written: whether the hart ran.
 fn noted_step<A: Allocator + Copy>(
     machine: &mut Machine<FlatStore<A>, A>,
     image: &Image<A>,
@@ -45,7 +46,9 @@ fn noted_step<A: Allocator + Copy>(
         return Ok(false);
     }
     if let NextTouch::Word(touch) = next_touch(hart, image) {
-        note(touched, touch.word, number)?;
+        if !is_unwritable(image.segments(), touch.word) {
+            note(touched, touch.word, number)?;
+        }
     }
     machine.step(Choice {
         hart: number,
@@ -91,8 +94,8 @@ fn note_alone<A: Allocator + Copy>(
     Ok(())
 }
 
-/// The words that one hart alone touches where all harts run by turns, and where each runs alone,
-/// 4,096 steps of each hart at most. Fails when out of memory.
+/// The words that may be written and one hart alone touches where all harts run by turns, and where
+/// each runs alone, 4,096 steps of each hart at most. Fails when out of memory.
 pub fn guessed_words<A: Allocator + Copy>(
     alloc: A,
     image: &Image<A>,

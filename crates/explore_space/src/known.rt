@@ -1,5 +1,5 @@
 //! What is known of a program's worlds.
-ghost use Rattle.std.specs.Prelude.{◌≡◌, ◌<◌, List, ℕ, IfOk, length};
+ghost use Rattle.std.specs.Prelude.{◌≡◌, ◌<◌, List, ℕ, IfOk, OnOk, length};
 ghost use Rattle.mem_store.specs.Image.{image_memory, segments_memory};
 ghost use Rattle.hart_local.specs.CodeMemory.{code_in};
 ghost use Rattle.machine.specs.Start.{started};
@@ -17,6 +17,7 @@ use crate::memo::Memo;
 use crate::settling::LocalCode;
 use crate::shared::Shared;
 use crate::turning::{refusal_word, steps_from, turned_key};
+use crate::word::hart_of_word;
 use hart_step::Hart;
 use image::Image;
 use machine::{Choice, Inputs};
@@ -90,17 +91,18 @@ impl<'a, A: Allocator + Copy> Known<'a, A> {
         )
     }
 
-    /// The key of the place that is one turn of a hart further.
+    /// Writes the key of the place that is one turn of a hart further into `next`.
     pub fn key_after(
         &mut self,
         alloc: A,
         count: usize,
         key: &[u32],
         turn: Choice,
-    ) -> Result<Vec<u32, A>, AllocError>
+        next: &mut Vec<u32, A>,
+    ) -> Result<(), AllocError>
         requires { IsKey self.old.image.now count self.old.harts.parts.items self.old.shareds.parts.items key.now }
-        ensures key { IfOk result (λ next. IsKeyOf (habits_of self.old.code.now) self.old.image.now count self.new.harts.parts.items
-            self.new.shareds.parts.items next.items (place_after (place_of_key (habits_of self.old.code.now) self.old.image.now count
+        ensures key { OnOk result (IsKeyOf (habits_of self.old.code.now) self.old.image.now count self.new.harts.parts.items
+            self.new.shareds.parts.items next.new.items (place_after (place_of_key (habits_of self.old.code.now) self.old.image.now count
             self.old.harts.parts.items self.old.shareds.parts.items key.now) turn)) }
         ensures kept { KeysStay (habits_of self.old.code.now) self.old.image.now count self.old.harts.parts.items self.old.shareds.parts.items
             self.new.harts.parts.items self.new.shareds.parts.items }
@@ -117,6 +119,7 @@ impl<'a, A: Allocator + Copy> Known<'a, A> {
             &mut self.turns,
             key,
             turn,
+            next,
         )
     }
 
@@ -137,7 +140,7 @@ impl<'a, A: Allocator + Copy> Known<'a, A> {
         if number >= count {
             return Ok(0);
         }
-        let (hart, shared) = (key[number], key[count]);
+        let (hart, shared) = (hart_of_word(key[number]), key[count]);
         let words = [hart, shared, turn.hart, refusal_word(turn)];
         if let Some([_, _, steps]) = self.turns.find(&words) {
             return Ok(*steps);

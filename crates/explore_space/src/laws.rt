@@ -24,8 +24,8 @@ pub fn harts_in_a_section_are_seen()
         → harts_between section.from section.to w.harts ≤ harts_between section.from section.to s.harts }
 {}
 
-/// Local steps and steps on a hart's own words can wait, where the steps of others are clear of those
-/// words; each local step is such a step.
+/// Local steps, steps on a hart's own words and loads of words that can't be written can wait, where
+/// the steps of others are clear of those words.
 #[tactic(auto, using(crate::proofs::HabitLemmas::habits_wait))]
 pub fn own_steps_can_wait()
     ensures { (habits : Habits) → CanWait (quiet_by_habit habits) (clear_by_habit habits) (stride_by_habit habits) }

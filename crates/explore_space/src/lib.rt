@@ -38,3 +38,4 @@ mod section;
 mod settling;
 mod shared;
 mod turning;
+mod word;

@@ -11,7 +11,6 @@ const BUCKETS: usize = 64;
 /// Answers under keys, both rows of words. In use are 4 bytes for each word, and 16 for each key.
 #[derive(Drop)]
 pub struct Memo<A: Allocator> {
-    alloc: A,
     /// The keys.
     pub keys: Table<A>,
     /// For each key its answer.
@@ -25,7 +24,6 @@ impl<A: Allocator + Copy> Memo<A> {
         ensures { IfOk result (λ memo. length memo.keys ≡ 0) }
     {
         Ok(Memo {
-            alloc,
             keys: Table::new(alloc, BUCKETS)?,
             answers: Rows::new(alloc),
         })
@@ -46,7 +44,7 @@ impl<A: Allocator + Copy> Memo<A> {
     pub fn keep(&mut self, key: &[u32], answer: &[u32]) -> Result<(), AllocError>
         ensures { KeepsOne self.old.keys self.old.answers self.new.keys self.new.answers key.now answer.now }
     {
-        let at = self.keys.add(Vec::from_slice(self.alloc, key)?)?;
+        let at = self.keys.add(key)?;
         if at == self.answers.len() {
             self.answers.push(answer)?;
         }

@@ -1,5 +1,5 @@
 //! Steps taken at once.
-ghost use Rattle.std.specs.Prelude.{◌≡◌, ◌≤◌, if◌then◌else◌, IfOk, None, Some};
+ghost use Rattle.std.specs.Prelude.{◌≡◌, ◌≤◌, ◌&&◌, not, if◌then◌else◌, IfOk, None, Some};
 ghost use Rattle.std.specs.Prelude.{ℕ, Some, slice_get};
 ghost use Rattle.mem_store.specs.Image.{image_memory, segments_memory};
 ghost use Rattle.hart_step.specs.Hart.{hart_of};
@@ -12,7 +12,9 @@ ghost use Rattle.machine.specs.World.{World};
 ghost use Rattle.explore_space.specs.Begun.{runs_outside};
 ghost use Rattle.explore_space.specs.Failing.{strays_by};
 ghost use Rattle.bank_step.specs.Told.{as_touch};
-ghost use Rattle.explore_space.specs.Habits.{habits_of, owners_in, takes_own_step, waits_on_own};
+ghost use Rattle.bank_laws.specs.Carried.{act_of};
+ghost use Rattle.explore_sites.specs.Own.{Owners, is_own_touch, is_store_conditional, may_store, only_loads};
+ghost use Rattle.explore_space.specs.Habits.{habits_of, owners_in, takes_own_step};
 
 use crate::own_words::{OwnWord, owner_of};
 use crate::section::Section;
@@ -63,19 +65,9 @@ impl<A: Allocator> LocalCode<A> {
         })
     }
 
-    /// Whether the hart with this number takes a step on a word of its own next, if it is this one.
+    /// Whether the hart with this number, if it is this one, touches a word in its next step that no
+    /// other hart sees it touch: one of its own, or one that can't be written, which it loads.
     pub fn takes_own<B: Allocator>(&self, image: &Image<B>, hart: &Hart, number: u32) -> bool
-        ensures { (w : World) → slice_get w.harts number ≡ Some (hart_of hart.now) → Keeps (image_memory image.now) w.memory
-            → result ≡ takes_own_step (habits_of self.now) w number }
-    {
-        if self.words.is_empty() {
-            return false;
-        }
-        self.touches_own(image, hart, number)
-    }
-
-    // The same, whether some word has an owner or not.
-    fn touches_own<B: Allocator>(&self, image: &Image<B>, hart: &Hart, number: u32) -> bool
         ensures { (w : World) → slice_get w.harts number ≡ Some (hart_of hart.now) → Keeps (image_memory image.now) w.memory
             → result ≡ takes_own_step (habits_of self.now) w number }
     {
@@ -84,10 +76,10 @@ impl<A: Allocator> LocalCode<A> {
         }
         match next_touch(hart, image) {
             NextTouch::Unknown | NextTouch::Nothing => false,
-            NextTouch::Word(touch) => match owner_of(&self.words, touch.word) {
-                Some(owner) => owner == number && can_wait(image, touch),
-                None => false,
-            },
+            NextTouch::Word(touch) => {
+                let owner = owner_of(&self.words, touch.word);
+                is_own(image, touch, owner, number)
+            }
         }
     }
 
@@ -107,18 +99,46 @@ impl<A: Allocator> LocalCode<A> {
     }
 }
 
-// Whether a step with this touch is one on an own word where the word is its hart's own: a
-// store-conditional isn't, since a refusal changes it, nor is a load or a store of a word that can't
-// be written.
-fn can_wait<A: Allocator>(image: &Image<A>, touch: PlannedTouch) -> bool
-    ensures { result ≡ waits_on_own (image_memory image.now) (as_touch touch) }
+// Whether a hart's touch of a word with this owner is one that no other hart sees. A
+// store-conditional's isn't, since a refusal changes it, nor is a store into a word that can't be
+// written, which faults.
+fn is_own<A: Allocator>(
+    image: &Image<A>,
+    touch: PlannedTouch,
+    owner: Option<u32>,
+    number: u32,
+) -> bool
+    ensures { (owners : Owners) → owner ≡ owners (as_touch touch).word
+        → result ≡ is_own_touch owners (image_memory image.now) number (as_touch touch) }
 {
-    match touch.kind {
-        AccessKind::Load | AccessKind::Store | AccessKind::Amo => {
-            !is_unwritable(image.segments(), touch.word)
-        }
-        AccessKind::LoadReserved => true,
+    let is_fixed = is_unwritable(image.segments(), touch.word);
+    match owner {
+        Some(owner) => owner == number && can_wait(touch.kind, is_fixed),
+        None => is_fixed && only_loads(touch.kind),
+    }
+}
+
+// Whether a hart's access to its own word can wait, where the word can't be written or may be.
+fn can_wait(kind: AccessKind, is_fixed: bool) -> bool
+    ensures { result ≡ (not (may_store (act_of kind) && is_fixed) && not (is_store_conditional (act_of kind))) }
+{
+    match kind {
+        AccessKind::Load | AccessKind::LoadReserved => true,
+        AccessKind::Store | AccessKind::Amo => !is_fixed,
         AccessKind::StoreConditional => false,
+    }
+}
+
+// Whether an access only loads.
+fn only_loads(kind: AccessKind) -> bool
+    ensures { result ≡ only_loads (act_of kind) }
+{
+    match kind {
+        AccessKind::Load => true,
+        AccessKind::Store
+        | AccessKind::Amo
+        | AccessKind::LoadReserved
+        | AccessKind::StoreConditional => false,
     }
 }
 
@@ -175,8 +195,8 @@ pub fn settle<A: Allocator>(hart: &mut Hart, code: &LocalCode<A>) -> u32
     }
 }
 
-// Whether a hart runs.
-fn is_running(hart: &Hart) -> bool
+/// Whether a hart runs.
+pub fn is_running(hart: &Hart) -> bool
     ensures { result ≡ not_stopped (hart_of hart.now).state }
 {
     match hart.state {

@@ -1,5 +1,5 @@
 //! Turns: a choice, and the steps that its hart takes at once behind it.
-ghost use Rattle.std.specs.Prelude.{◌≡◌, if◌then◌else◌, ◌+◌, ◌<◌, ◌≤◌, IfOk, length};
+ghost use Rattle.std.specs.Prelude.{◌≡◌, if◌then◌else◌, ◌+◌, ◌<◌, ◌≤◌, IfOk, OnOk, length};
 ghost use Rattle.mem_store.specs.Image.{image_memory, segments_memory};
 ghost use Rattle.hart_reservations.specs.Marks.{mark_at};
 ghost use Rattle.hart_step.specs.Hart.{hart_of};
@@ -19,6 +19,7 @@ use crate::kept::{KeptHarts, KeptShareds, keep_hart, keep_shared};
 use crate::memo::Memo;
 use crate::settling::{LocalCode, OWN_AT_ONCE, settle};
 use crate::shared::Shared;
+use crate::word::{hart_of_word, word_of_hart};
 use explore_sites::step_site;
 use hart_reservations::MAX_HARTS;
 use hart_step::{Hart, HartState};
@@ -217,7 +218,8 @@ fn known_turn<A: Allocator + Copy>(
     Ok(turned)
 }
 
-/// The key of the place that is one turn of a hart further. A turn of no hart is refused here.
+/// Writes the key of the place that is one turn of a hart further into `next`, whatever stood there.
+/// A turn of no hart is refused here.
 pub fn turned_key<A: Allocator + Copy>(
     alloc: A,
     image: &Image<A>,
@@ -228,12 +230,13 @@ pub fn turned_key<A: Allocator + Copy>(
     turns: &mut Memo<A>,
     key: &[u32],
     turn: Choice,
-) -> Result<Vec<u32, A>, AllocError>
+    next: &mut Vec<u32, A>,
+) -> Result<(), AllocError>
     requires its_code { segments_memory code.now.code ≡ code_in (image_memory image.now) }
     requires is { IsKey image.now count harts.old.parts.items shareds.old.parts.items key.now }
     requires kept { AreTurns (habits_of code.now) image.now harts.old.parts.items shareds.old.parts.items turns.old.keys turns.old.answers }
-    ensures there { IfOk result (λ _. turn.hart < count) }
-    ensures key { IfOk result (λ next. IsKeyOf (habits_of code.now) image.now count harts.new.parts.items shareds.new.parts.items next.items
+    ensures there { OnOk result (turn.hart < count) }
+    ensures key { OnOk result (IsKeyOf (habits_of code.now) image.now count harts.new.parts.items shareds.new.parts.items next.new.items
         (place_after (place_of_key (habits_of code.now) image.now count harts.old.parts.items shareds.old.parts.items key.now) turn)) }
     ensures kept { KeysStay (habits_of code.now) image.now count harts.old.parts.items shareds.old.parts.items
         harts.new.parts.items shareds.new.parts.items }
@@ -243,13 +246,14 @@ pub fn turned_key<A: Allocator + Copy>(
     if number >= count {
         return Err(AllocError);
     }
-    let (hart, shared) = (key[number], key[count]);
+    let (hart, shared) = (hart_of_word(key[number]), key[count]);
     let turned = known_turn(
         alloc, image, code, harts, shareds, turns, hart, shared, turn,
     )?;
-    let mut next = Vec::from_slice(alloc, key)?;
-    next[number] = turned.hart;
+    let word = word_of_hart(turned.hart as usize, true)?;
+    next.clear();
+    next.extend_from_slice(key)?;
+    next[number] = word;
     next[count] = turned.shared;
-    next[count + 1 + number] = 1;
-    Ok(next)
+    Ok(())
 }

@@ -1,7 +1,7 @@
 use Rattle.std.proofs.Common.{◌≡◌, take, map}
 use Rattle.hart_step.specs.Hart.{hart_of}
-use Rattle.explore_space.specs.Places.{hart_numbered}
+use Rattle.explore_space.specs.Places.{hart_worded}
 use Rattle.explore_space.proofs.failing.harts_by_key.Given as goal
 
 abbrev pub invariant-harts : goal.invariant-harts
-invariant-harts g l = map hart_of l.ends.items ≡ map (hart_numbered l.harts) (take l.k l.key)
+invariant-harts g l = map hart_of l.ends.items ≡ map (hart_worded l.harts) (take l.k l.key)

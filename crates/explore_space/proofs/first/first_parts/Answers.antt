@@ -18,6 +18,6 @@ returns g c =
     (pushed_first _ _ _ _ (ap is_ok c.in_ok-push_shared.was) c.in_ok-shareds.ensures c.push_shared.ensures.pushed)
     (ap (map hart_of) (c.in_ok-harts.ensures ∙ c.deref.ensures.value) ∙ c.in_ok-begin.ensures) (fun_ext (λ k. no_mark most_harts k))
     c.new-2.ensures.items
-    (subst (λ n. length row ≡ 2 * n + 1) count c.in_ok-row.ensures.len)
-    (subst (λ n. (k : ℕ) → k < n → slice_index row k ≡ k) count c.in_ok-row.ensures.harts)
-    (subst (λ n. (k : ℕ) → slice_index row (n + k) ≡ 0) count c.in_ok-row.ensures.zeros)
+    (subst (λ n. length row ≡ n + 1) count c.in_ok-row.ensures.len)
+    (subst (λ n. (k : ℕ) → k < n → slice_index row k ≡ 2 * k) count c.in_ok-row.ensures.harts)
+    (subst (λ n. slice_index row n ≡ 0) count c.in_ok-row.ensures.shared)
