@@ -69,6 +69,12 @@ const ONE: u32 = 0x0010_0293; // addi t0, zero, 1
 
 const BREAK: u32 = 0x0010_0073; // ebreak
 
+const HERE: u32 = 0x0000_0497; // auipc s1, 0
+
+const CODE: u32 = 0x0004_a283; // lw t0, 0(s1)
+
+const NEXT: u32 = 0x0044_a303; // lw t1, 4(s1)
+
 const EXIT: u32 = 0x05d0_0893; // addi a7, zero, 93
 
 const CALL: u32 = 0x0000_0073; // ecall
@@ -109,6 +115,10 @@ const ROUNDS: Program = Program::Fixed(&[SHIFT, FETCH, ADD, MASK, STORE, BACK]);
 const LOCK: Program = Program::Fixed(&[
     SHIFT, LOCK_WORD, SWAP, AGAIN, FETCH, ADD, STORE, CLEAR, EXIT, CALL,
 ]);
+
+// Each hart loads two words of its code, which nobody can write, shares one, and loads it again
+// before it exits with what is shared then.
+const CONSTANTS: Program = Program::Fixed(&[HERE, CODE, NEXT, SHARE, CODE, RESULT, EXIT, CALL]);
 
 // Hart 0 goes round for ever if it loads what the others store: the second turn of each, behind its
 // steps on a word of its own.
@@ -196,7 +206,7 @@ struct Row {
 }
 
 #[rattlefmt::skip]
-static ROWS: [Row; 20] = [
+static ROWS: [Row; 22] = [
     Row { program: OWN, inputs: &[0, 0], asked: PLAIN, found: Found::Holds(46, 3, &[Bound::After(10), Bound::After(10)]) },
     Row { program: OWN, inputs: &[0, 0, 0], asked: PLAIN, found: Found::Holds(629, 16, &[Bound::After(10), Bound::After(10), Bound::After(10)]) },
     Row { program: OWN, inputs: &[0, 0], asked: EXITS, found: Found::Holds(46, 3, &[Bound::After(10), Bound::After(10)]) },
@@ -217,6 +227,9 @@ static ROWS: [Row; 20] = [
     // In a section each step is a turn of its own.
     Row { program: LOCK, inputs: &[0, 0], asked: PLAIN, found: Found::Holds(21, 1, &[Bound::Never, Bound::Never]) },
     Row { program: LOCK, inputs: &[0, 0], asked: IN_SECTION, found: Found::Holds(45, 1, &[Bound::Never, Bound::Never]) },
+    // A load of a word that can't be written needs no turn.
+    Row { program: CONSTANTS, inputs: &[0], asked: PLAIN, found: Found::Holds(3, 1, &[Bound::After(8)]) },
+    Row { program: CONSTANTS, inputs: &[0, 0], asked: PLAIN, found: Found::Holds(25, 1, &[Bound::After(8), Bound::After(8)]) },
     Row { program: TRAPS, inputs: &[0], asked: EXITS, found: Found::Holds(3, 1, &[Bound::After(8)]) },
     Row { program: TRAPS, inputs: &[0, 0], asked: PLAIN, found: Found::Holds(18, 1, &[Bound::Never, Bound::After(8)]) },
     Row { program: TRAPS, inputs: &[0, 0, 0], asked: EXITS, found: Found::Hangs(2) },
